@@ -1,0 +1,13 @@
+-- `Depth::new` refuses just the numbers above the top: each answer computes the test that led to it.
+use borrow.Author.Tests.{le-leb, lt-leb}
+use Rattle.rules.proofs.Depth.new.Statement.{statement}
+use Rattle.rules.proofs.Depth.new.Tie as tie
+
+returns : tie.Need-returns
+returns c = simp (lt-leb _ _ (c .if1 .taken))
+
+returns-2 : tie.Need-returns-2
+returns-2 c = simp (le-leb _ _ (c .if1 .left))
+
+pub new-spec : {M : Type 1} → statement M
+new-spec = tie.close (tie.spec returns returns-2)

@@ -1,0 +1,22 @@
+-- Laws of the rules.
+pub mod ListsLaws
+pub mod FollowingLaws
+pub mod NamesLaws
+pub mod ListedLaws
+pub mod SheetsLaws
+pub mod ThroughLaws
+pub mod NeededLaws
+pub mod DepthsLaws
+pub mod AccessLaws
+pub mod RoundsLaws
+pub mod TranslationLaws
+pub mod GreatestLaws
+pub mod VerdictsLaws
+pub mod CheckingLaws
+pub mod DerivationsLaws
+pub mod NumbersLaws
+pub mod GrantsLaws
+pub mod MeaninglessLaws
+pub mod GoodLaws
+pub mod SpecimenLaws
+pub mod Theorems
