@@ -1,15 +1,15 @@
 -- Access by the rules is access by a chain; a chain has one depth, and at most 16 records.
-use mathlib.Core.Path.{_≡_, refl, sym, _∙_, ap, subst, subst₂}
+use mathlib.Core.Path.{_≡_, refl, sym, _∙_, ap, subst₂}
 use mathlib.Core.Logic.{_↔_}
 use mathlib.Core.List.{List, [], _∷_, _++_, append-assoc, append-nil}
-use Prim.Native.Nat.{ℕ, zero, suc, _<_, _≤_, _+_}
+use Prim.Native.Nat.{ℕ, zero, suc, _≤_, _+_}
 use native.Mathlib.Nat.{le-refl}
 use native.Mathlib.Omega.{arith}
 use native.Mathlib.Decide.{ℕ-discrete}
 use lib.ListN.{length, length-append}
-use Rattle.rules.specs.Lists.{At, _▷_}
+use Rattle.rules.specs.Lists.{_▷_}
 use Rattle.rules.specs.Depths.{top, Step}
-use Rattle.rules.specs.Tables.{Path, AccessRecord, Delegation, Table, Asked}
+use Rattle.rules.specs.Tables.{AccessRecord, Delegation, Table, Asked}
 use Rattle.rules.specs.Ranges.{Good}
 use Rattle.rules.specs.Access.{Setting, Delegates, written, Access, root, delegated, Granted, Chain, first, next, Name, Meaning, Lists, Writes, settingBy}
 use Rattle.rules.specs.KeyTables.{KeyAccess, KeyDelegation, KeyTable, keySetting}

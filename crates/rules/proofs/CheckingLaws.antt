@@ -1,9 +1,9 @@
 -- The computed check accepts exactly the derivations that hold, at their depth.
-use mathlib.Core.Path.{_≡_, refl, sym, _∙_, ap, subst}
+use mathlib.Core.Path.{_≡_, refl, sym, ap, subst}
 use mathlib.Core.Bool.{Bool, true, false, _&&_, false≢true}
 use mathlib.Core.Logic.{_⊎_, inl, inr, _↔_}
 use mathlib.Core.List.{List, [], _∷_, _++_, append-assoc, append-nil}
-use mathlib.Core.Option.{Option, none, some, bind, bind-eq-some-iff, Option·some-injective}
+use mathlib.Core.Option.{Option, some, bind-eq-some-iff, Option·some-injective}
 use Prim.Native.Nat.{ℕ, zero, suc, _<_, _≤_}
 use native.Mathlib.Nat.{zero-lt-suc}
 use native.Mathlib.Omega.{arith}
@@ -13,23 +13,22 @@ use lib.ListN.{length, getElem?, set, replicate, length-set, length-replicate, g
 use Rattle.rules.specs.Lists.{At, _▷_, In, NoneTwice}
 use Rattle.rules.specs.Depths.{Step, stepCode}
 use Rattle.rules.specs.Tables.{Path, Target, toName, Binding, AccessRecord, Delegation, NameTable, Table, Asked, Request}
-use Rattle.rules.specs.Names.{IsSelf, Means, TargetMeans}
+use Rattle.rules.specs.Names.{Means, TargetMeans}
 use Rattle.rules.specs.Ranges.{GoodNames}
 use Rattle.rules.specs.Sheets.{entry}
 use Rattle.rules.specs.Following.{InSheet, TargetLeads}
 use Rattle.rules.specs.Filling.{Filling}
 use Rattle.rules.specs.Rounds.{targetKey}
 use Rattle.rules.specs.Access.{Setting, Name, Chain, Lists, Writes, settingBy}
-use Rattle.rules.specs.Derivations.{Derivation, only, MeansFrom, OrderedAfter, Holds}
+use Rattle.rules.specs.Derivations.{Derivation, only, OrderedAfter, Holds}
 use Rattle.rules.specs.Checking.{provided, depthOf, entered, Reach, rootReach, wroteReach, nameKey, goesOn, holdsAt}
 use Rattle.rules.specs.declared.Key.{Key}
 use Rattle.rules.specs.declared.Space.{Space}
-use Rattle.rules.proofs.ListsLaws.{at-one, some-at, at-some, in-snoc, in-left, in-last}
-use Rattle.rules.proofs.NamesLaws.{self-one, meaning-one}
+use Rattle.rules.proofs.ListsLaws.{some-at, at-some, in-snoc, in-left, in-last}
 use Rattle.rules.proofs.SheetsLaws.{filling-start, filling-step, filling-leads}
 use Rattle.rules.proofs.RoundsLaws.{target-leads}
 use Rattle.rules.proofs.DepthsLaws.{code-of-step, step-of-code}
-use Rattle.rules.proofs.AccessLaws.{Goes, ChainGoes, chain→goes, goes→chain}
+use Rattle.rules.proofs.AccessLaws.{Goes, chain→goes, goes→chain}
 
 provided-some : {A : Type 0} (b : Bool) (o : Option A) (x : A) → (provided b o ≡ some x) ↔ ((b ≡ true) × (o ≡ some x))
 provided-some true o x = (λ e. (refl, e), λ h. h .1)

@@ -1,22 +1,14 @@
 -- A derivation that holds is a grant; every grant at the greatest depth has a derivation that holds, with nothing idle in it.
-use mathlib.Core.Path.{_≡_, refl, sym, _∙_, ap, subst}
-use mathlib.Core.Bool.{Bool, true, false}
-use mathlib.Core.Logic.{_⊎_, inl, inr, _↔_}
-use mathlib.Core.List.{List, [], _∷_, _++_}
-use mathlib.Core.Option.{Option, none, some, bind}
-use Prim.Native.Nat.{ℕ, zero, suc, _<_, _≤_, _+_}
-use native.Mathlib.Nat.{le-antisymm}
-use native.Mathlib.Omega.{arith}
-use lib.ListN.{length, getElem?}
-use Rattle.rules.specs.Lists.{At, _▷_, In, NoneTwice, keep}
-use Rattle.rules.specs.Depths.{top}
-use Rattle.rules.specs.Tables.{Path, Target, toKey, toName, Binding, AccessRecord, Delegation, NameTable, Table, Asked, Request}
-use Rattle.rules.specs.Names.{IsSelf, Opens, Means, TargetMeans, BindingMeans, Through, TargetThrough}
-use Rattle.rules.specs.Ranges.{GoodNames, Good}
-use Rattle.rules.specs.Sheets.{Exact}
-use Rattle.rules.specs.Following.{InSheet, Leads, OpensAt, PathThrough}
-use Rattle.rules.specs.Access.{Setting, Granted, Chain, first, next, Name, Meaning, Lists, Writes, settingBy, setting}
-use Rattle.rules.specs.Derivations.{Derivation, only, MeansFrom, OrderedAfter, Ordered, Holds, Used, bySubject, byBinding, byAccess, byOwnerPath, byDelegateePath, NoneIdle}
+use mathlib.Core.Path.{_≡_, sym, subst}
+use mathlib.Core.Bool.{Bool, true}
+use mathlib.Core.List.{List, [], _∷_}
+use Prim.Native.Nat.{ℕ}
+use Rattle.rules.specs.Lists.{At, In, NoneTwice, keep}
+use Rattle.rules.specs.Tables.{Path, Target, toName, Binding, AccessRecord, Delegation, NameTable, Table, Asked, Request}
+use Rattle.rules.specs.Names.{Means, TargetMeans, Through, TargetThrough}
+use Rattle.rules.specs.Ranges.{GoodNames}
+use Rattle.rules.specs.Access.{Chain, first, next, Name, Meaning, Writes, settingBy, setting}
+use Rattle.rules.specs.Derivations.{Derivation, only, Ordered, Holds, bySubject, byAccess, byOwnerPath, byDelegateePath}
 use Rattle.rules.specs.Verdicts.{Grants}
 use Rattle.rules.specs.declared.Key.{Key}
 use Rattle.rules.specs.declared.Space.{Space}
@@ -25,7 +17,7 @@ use Rattle.rules.proofs.ListedLaws.{only-means, target-only}
 use Rattle.rules.proofs.ThroughLaws.{AllMean, target-listed-means, target-means-listed}
 use Rattle.rules.proofs.NeededLaws.{keep-in, keep-twice, keep-ordered, ordered-all-mean}
 use Rattle.rules.proofs.DepthsLaws.{fits}
-use Rattle.rules.proofs.AccessLaws.{chain→access, access→chain, chain-short, chain-one, table-fixed}
+use Rattle.rules.proofs.AccessLaws.{chain→access, chain-one, table-fixed}
 
 -- ---- a wider meaning keeps chains
 module _ (M N : Meaning) (t : Table) (q : Asked Space) (wider : (S : Space) (p : Path) (k : Key) → M S p k → N S p k) where

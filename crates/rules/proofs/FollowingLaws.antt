@@ -1,8 +1,8 @@
 -- Following by an account that is sound and closed finds just what the rules for names give.
-use mathlib.Core.Path.{_≡_, refl, sym, _∙_, ap, subst}
+use mathlib.Core.Path.{refl, subst}
 use mathlib.Core.List.{List, [], _∷_, _++_, append-assoc, append-nil}
 use Prim.Native.Nat.{ℕ}
-use Rattle.rules.specs.Lists.{At, _▷_}
+use Rattle.rules.specs.Lists.{_▷_}
 use Rattle.rules.specs.Tables.{Path, Target, toKey, toName, Binding, NameTable}
 use Rattle.rules.specs.Names.{IsSelf, opener, Opens, Means, self, boundToKey, boundToName, TargetMeans, BindingMeans}
 use Rattle.rules.specs.Following.{Account, Leads, PathLeads, NameLeads, TargetLeads, having, MeansBy, Sound, Closed}

@@ -1,17 +1,16 @@
 -- A test that a table is good, for tables that are written out.
-use mathlib.Core.Path.{_≡_, refl, sym, _∙_, ap, subst}
+use mathlib.Core.Path.{_≡_, refl, sym, ap}
 use mathlib.Core.Bool.{Bool, true, false, _&&_, not, false≢true}
 use mathlib.Core.List.{List, [], _∷_}
-use Prim.Native.Nat.{ℕ, zero, suc, _<_, _≤_}
+use Prim.Native.Nat.{ℕ, zero, suc}
 use native.Mathlib.Nat.{not-suc-le-zero, le-of-suc-le-suc}
-use borrow.Author.Tests.{ltb-true, leb-true, eqb-true, eq-eqb}
+use borrow.Author.Tests.{ltb-true, leb-true, eq-eqb}
 use lib.Dec.{eqb, leb, ltb}
 use lib.ListN.{length}
 use Rattle.rules.specs.Lists.{At}
 use Rattle.rules.specs.Depths.{top}
 use Rattle.rules.specs.Tables.{Path, Target, toKey, toName, Binding, AccessRecord, Delegation, NameTable, Table}
-use Rattle.rules.specs.Names.{IsSelf}
-use Rattle.rules.specs.Ranges.{Between, mostKey, mostBase, mostObject, mostRight, mostNames, mostSpaces, mostBindings, mostAccesses, mostDelegations, GoodKey, GoodPath, GoodTarget, GoodBinding, GoodAccess, GoodDelegation, GoodNames, Good}
+use Rattle.rules.specs.Ranges.{Between, mostKey, mostBase, mostObject, mostRight, mostNames, mostSpaces, mostBindings, mostAccesses, mostDelegations, GoodPath, GoodTarget, GoodBinding, GoodAccess, GoodDelegation, GoodNames, Good}
 use Rattle.rules.specs.declared.Key.{Key}
 use Rattle.rules.specs.declared.Space.{Space}
 

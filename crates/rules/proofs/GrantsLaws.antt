@@ -1,25 +1,23 @@
 -- Every grant at the greatest depth has a derivation that holds at exactly that depth, with at most 16 chain records and nothing idle.
-use mathlib.Core.Path.{_≡_, refl, sym, _∙_, ap, subst}
-use mathlib.Core.Bool.{Bool, true, false}
-use mathlib.Core.Logic.{_⊎_, inl, inr, _↔_}
+use mathlib.Core.Path.{_≡_, refl, ap, subst}
+use mathlib.Core.Bool.{true}
+use mathlib.Core.Logic.{_⊎_, inl, inr}
 use mathlib.Core.List.{List, [], _∷_, _++_}
 use mathlib.Core.Option.{Option, none, some}
-use Prim.Native.Nat.{ℕ, zero, suc, _<_, _≤_, _+_}
+use Prim.Native.Nat.{ℕ, _≤_}
 use native.Mathlib.Nat.{le-antisymm}
 use native.Mathlib.Omega.{arith}
-use lib.ListN.{length, getElem?}
+use lib.ListN.{getElem?}
 use Rattle.rules.specs.Lists.{At, _▷_, In, NoneTwice, keep}
-use Rattle.rules.specs.Depths.{top}
-use Rattle.rules.specs.Tables.{Path, Target, Binding, AccessRecord, Delegation, NameTable, Table, Request}
-use Rattle.rules.specs.Names.{Means, TargetMeans, Through, TargetThrough}
-use Rattle.rules.specs.Ranges.{GoodNames, Good}
+use Rattle.rules.specs.Tables.{Target, Binding, Delegation, NameTable, Table, Request}
+use Rattle.rules.specs.Names.{TargetMeans, TargetThrough}
+use Rattle.rules.specs.Ranges.{Good}
 use Rattle.rules.specs.Sheets.{Exact}
 use Rattle.rules.specs.Rounds.{sheetOf}
-use Rattle.rules.specs.Access.{Granted, Chain, Name, setting}
-use Rattle.rules.specs.Derivations.{Derivation, MeansFrom, OrderedAfter, Holds, Used, bySubject, byBinding, byAccess, byOwnerPath, byDelegateePath, NoneIdle, Shown}
+use Rattle.rules.specs.Access.{Granted, Chain, setting}
+use Rattle.rules.specs.Derivations.{Derivation, OrderedAfter, Holds, Used, bySubject, byBinding, byAccess, byOwnerPath, byDelegateePath, NoneIdle, Shown}
 use Rattle.rules.specs.Verdicts.{Verdict, granted, Has, greatest, Decides, named, meansNothing}
 use Rattle.rules.specs.declared.Key.{Key}
-use Rattle.rules.specs.declared.Space.{Space}
 use Rattle.rules.proofs.ListsLaws.{at-one, some-at, at-some, in-snoc, in-left, in-right, in-either}
 use Rattle.rules.proofs.SheetsLaws.{rest-listed}
 use Rattle.rules.proofs.ThroughLaws.{target-means-listed}

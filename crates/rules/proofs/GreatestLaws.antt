@@ -1,25 +1,25 @@
 -- An account of depths that is sound and closed has the greatest; the rounds compute it; verdicts are one.
-use mathlib.Core.Path.{_≡_, refl, sym, _∙_, ap, ap₂, subst}
-use mathlib.Core.Logic.{_⊎_, inl, inr, _↔_}
+use mathlib.Core.Path.{_≡_, refl, sym, _∙_, ap, subst}
+use mathlib.Core.Logic.{_⊎_, inl, inr}
 use mathlib.Core.Bool.{Bool, true, false, _&&_, false≢true}
 use mathlib.Core.List.{List, [], _∷_, _++_, map}
-use Prim.Native.Nat.{ℕ, zero, suc, _<_, _≤_, _+_, max, zero-le, suc-le-suc}
-use native.Mathlib.Nat.{le-refl, le-trans, le-antisymm, not-suc-le-zero, le-of-suc-le-suc, zero-lt-suc}
+use Prim.Native.Nat.{ℕ, zero, suc, _<_, _≤_, max, zero-le, suc-le-suc}
+use native.Mathlib.Nat.{le-refl, le-trans, le-antisymm, not-suc-le-zero, le-of-suc-le-suc}
 use native.Mathlib.Omega.{arith}
 use native.Mathlib.Decide.{decLt}
 use borrow.Author.Tests.{eqb-true, eq-eqb}
 use lib.Dec.{eqb}
-use lib.ListN.{length, getD, length-append}
+use lib.ListN.{length, length-append}
 use Rattle.rules.specs.Choice.{pick}
 use Rattle.rules.specs.Lists.{At, _▷_}
 use Rattle.rules.specs.Depths.{top, Step, stepCode}
 use Rattle.rules.specs.Tables.{Asked}
 use Rattle.rules.specs.Access.{Setting, Granted, Chain, first, next}
-use Rattle.rules.specs.KeyTables.{KeyAccess, KeyDelegation, KeyTable, KeyRequest, keySetting}
-use Rattle.rules.specs.Verdicts.{Verdict, granted, unnamed, denied, Has, greatest, nothing, DecidesByKeys}
-use Rattle.rules.specs.Greatest.{Given, best, matches, byAccess, byDelegation, reached, greatestCode, verdictOf, keyVerdict}
+use Rattle.rules.specs.KeyTables.{KeyAccess, KeyDelegation, KeyTable, keySetting}
+use Rattle.rules.specs.Verdicts.{Verdict, granted, Has, greatest, nothing}
+use Rattle.rules.specs.Greatest.{Given, best, matches, byAccess, byDelegation, reached, greatestCode, verdictOf}
 use Rattle.rules.specs.declared.Key.{Key}
-use Rattle.rules.proofs.ListsLaws.{at-head, at-tail, at-reads}
+use Rattle.rules.proofs.ListsLaws.{at-head, at-tail}
 use Rattle.rules.proofs.DepthsLaws.{Fits, fits, step-more, code-of-step, step-of-code, code-more}
 use Rattle.rules.proofs.AccessLaws.{chain→access, access→chain, chain-short}
 

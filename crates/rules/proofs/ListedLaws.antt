@@ -1,5 +1,5 @@
 -- Meaning from listed bindings is meaning, and more bindings take no meaning away.
-use mathlib.Core.Path.{_≡_, sym, subst}
+use mathlib.Core.Path.{sym, subst}
 use mathlib.Core.List.{List, [], _∷_, _++_, append-assoc, append-nil}
 use Prim.Native.Nat.{ℕ}
 use Rattle.rules.specs.Lists.{At, _▷_, In}

@@ -1,13 +1,13 @@
 -- A record naming someone without a meaning gives access to nobody: without it everyone has what they had.
-use mathlib.Core.Path.{_≡_, refl, subst}
+use mathlib.Core.Path.{subst}
 use mathlib.Core.Logic.{_⊎_, inl, inr, _↔_}
-use mathlib.Core.List.{List, [], _∷_}
+use mathlib.Core.List.{List, _∷_}
 use Prim.Native.Nat.{ℕ, zero, suc}
 use native.Mathlib.Nat.{not-suc-le-zero, le-of-suc-le-suc}
 use Rattle.rules.specs.Lists.{At}
-use Rattle.rules.specs.Tables.{Path, AccessRecord, Delegation, NameTable, Table, Asked}
+use Rattle.rules.specs.Tables.{AccessRecord, Delegation, Table, Asked}
 use Rattle.rules.specs.Names.{Means}
-use Rattle.rules.specs.Access.{Setting, Granted, Name, Lists, Writes, setting}
+use Rattle.rules.specs.Access.{Setting, Granted, Name, setting}
 use Rattle.rules.specs.Meaningless.{IdleAccess, IdleDelegation, Without, done, stays, goes, WithoutIdle}
 use Rattle.rules.specs.declared.Key.{Key}
 use Rattle.rules.specs.declared.Space.{Space}

@@ -2,7 +2,7 @@
 use mathlib.Core.Path.{_≡_, refl, sym, _∙_, ap, subst}
 use mathlib.Core.Logic.{_⊎_, inl, inr}
 use mathlib.Core.List.{List, [], _∷_, _++_, append-assoc}
-use Prim.Native.Nat.{ℕ, zero, suc, _<_, _≤_, _+_}
+use Prim.Native.Nat.{ℕ, zero, suc, _<_, _+_}
 use native.Mathlib.Nat.{le-refl}
 use native.Mathlib.Omega.{arith}
 use lib.ListN.{length}
@@ -10,11 +10,11 @@ use Rattle.rules.specs.Lists.{At, _▷_}
 use Rattle.rules.specs.Tables.{Path, Target, toKey, toName, Binding, NameTable}
 use Rattle.rules.specs.Names.{IsSelf, opener, Opens, Means, self, boundToKey, boundToName, TargetMeans, BindingMeans, Through, TargetThrough, LeadsTo, directly, throughOthers}
 use Rattle.rules.specs.Ranges.{GoodNames, GoodTarget}
-use Rattle.rules.specs.Following.{Account, Leads, NameLeads, having}
+use Rattle.rules.specs.Following.{Leads, having}
 use Rattle.rules.specs.declared.Key.{Key}
 use Rattle.rules.specs.declared.Space.{Space}
 use Rattle.rules.proofs.ListsLaws.{at-one}
-use Rattle.rules.proofs.FollowingLaws.{means-on, name-unsnoc, name→means, means→name}
+use Rattle.rules.proofs.FollowingLaws.{name-unsnoc, name→means, means→name}
 
 -- ---- more bindings take no meaning away
 module _ (t : NameTable) (bs cs : List Binding) (within : (i : ℕ) (x : Binding) → At bs i x → (j : ℕ) × At cs j x) where

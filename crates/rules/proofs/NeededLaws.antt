@@ -4,17 +4,15 @@ use mathlib.Core.Bool.{Bool, true, false, false≢true}
 use mathlib.Core.Logic.{_⊎_, inl, inr, _↔_}
 use mathlib.Core.List.{List, [], _∷_, _++_, append-assoc, append-nil}
 use Prim.Native.Nat.{ℕ}
-use native.Mathlib.Decide.{ℕ-discrete}
 use borrow.Author.Tests.{eqb-true, eq-eqb}
 use lib.Dec.{eqb}
 use Rattle.rules.specs.Choice.{pick}
 use Rattle.rules.specs.Lists.{At, _▷_, In, NoneTwice, keep}
-use Rattle.rules.specs.Tables.{Target, Binding, NameTable}
-use Rattle.rules.specs.Names.{TargetMeans, TargetThrough}
+use Rattle.rules.specs.Tables.{Binding, NameTable}
+use Rattle.rules.specs.Names.{TargetThrough}
 use Rattle.rules.specs.Ranges.{GoodNames}
-use Rattle.rules.specs.Derivations.{only, MeansFrom, OrderedAfter, Ordered}
-use Rattle.rules.specs.declared.Key.{Key}
-use Rattle.rules.proofs.ListsLaws.{in-snoc, in-left, in-right, in-either, in-last}
+use Rattle.rules.specs.Derivations.{MeansFrom, OrderedAfter}
+use Rattle.rules.proofs.ListsLaws.{in-snoc, in-left, in-right, in-either}
 use Rattle.rules.proofs.ListedLaws.{target-only, target-only-more}
 use Rattle.rules.proofs.ThroughLaws.{AllMean, target-listed-means, target-means-listed}
 

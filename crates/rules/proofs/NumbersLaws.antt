@@ -1,35 +1,25 @@
 -- The numbers of the bindings that a name goes through, listed; and with them a derivation for every grant at the greatest depth.
 use mathlib.Core.Path.{_≡_, refl, sym, _∙_, ap, subst}
-use mathlib.Core.Bool.{Bool, true, false}
 use mathlib.Core.Logic.{_⊎_, inl, inr, _↔_}
-use mathlib.Core.List.{List, [], _∷_, _++_}
+use mathlib.Core.List.{List, [], _∷_}
 use mathlib.Core.Option.{Option, none, some, bind, bind-eq-some-iff}
-use Prim.Native.Nat.{ℕ, zero, suc, _<_, _≤_, _+_}
-use native.Mathlib.Nat.{le-antisymm}
+use Prim.Native.Nat.{ℕ}
 use native.Mathlib.Omega.{arith}
-use lib.ListN.{length, getElem?}
-use Rattle.rules.specs.Lists.{At, _▷_, In, NoneTwice, keep}
-use Rattle.rules.specs.Depths.{top}
-use Rattle.rules.specs.Tables.{Path, Target, toKey, toName, Binding, AccessRecord, Delegation, NameTable, Table, Request}
-use Rattle.rules.specs.Names.{IsSelf, Opens, Means, TargetMeans, Through, TargetThrough}
-use Rattle.rules.specs.Ranges.{GoodNames, Good}
+use lib.ListN.{getElem?}
+use Rattle.rules.specs.Lists.{In}
+use Rattle.rules.specs.Tables.{Path, Target, toKey, toName, NameTable}
+use Rattle.rules.specs.Names.{IsSelf, Through, TargetThrough}
+use Rattle.rules.specs.Ranges.{GoodNames}
 use Rattle.rules.specs.Sheets.{Exact}
 use Rattle.rules.specs.Following.{InSheet, Leads, OpensAt, PathThrough}
-use Rattle.rules.specs.Rounds.{find, hasKey, isFor, opened, sheetOf}
-use Rattle.rules.specs.Access.{Granted, Chain, Name, setting}
-use Rattle.rules.specs.Derivations.{Derivation, withSome, MeansFrom, OrderedAfter, Holds, Used, bySubject, byBinding, byAccess, byOwnerPath, byDelegateePath, NoneIdle}
-use Rattle.rules.specs.Verdicts.{Verdict, granted, Has, greatest, Decides, named}
+use Rattle.rules.specs.Rounds.{find, hasKey, isFor, opened}
+use Rattle.rules.specs.Derivations.{withSome}
 use Rattle.rules.specs.declared.Key.{Key}
 use Rattle.rules.specs.declared.Space.{Space}
-use Rattle.rules.proofs.ListsLaws.{at-one, some-at, at-some, in-left, in-right, in-either}
-use Rattle.rules.proofs.NamesLaws.{self-one, target-one, means-home}
-use Rattle.rules.proofs.SheetsLaws.{rest-listed}
-use Rattle.rules.proofs.ThroughLaws.{through-by-sheet, target-means-listed}
-use Rattle.rules.proofs.NeededLaws.{keep-in, among, among-in, wants, Earlier, wants-more, WantedBy, wants-why, wants-closed}
-use Rattle.rules.proofs.DepthsLaws.{fits}
-use Rattle.rules.proofs.AccessLaws.{chain→access, access→chain, chain-short}
-use Rattle.rules.proofs.RoundsLaws.{space-hit, binding-hit, space-found, binding-found, opened-leads, sheet-ended, sheet-exact}
-use Rattle.rules.proofs.DerivationsLaws.{Covers, GivesAll, covered-holds}
+use Rattle.rules.proofs.ListsLaws.{some-at, at-some}
+use Rattle.rules.proofs.NamesLaws.{means-home}
+use Rattle.rules.proofs.ThroughLaws.{through-by-sheet}
+use Rattle.rules.proofs.RoundsLaws.{space-hit, binding-hit, space-found, binding-found, opened-leads}
 
 clash : {A : Type 0} {x : A} → none ≡ some x → ⊥
 clash e = let z : _≡_ {A = ℕ} 0 1 = cc in omega arith

@@ -2,8 +2,8 @@
 use mathlib.Core.Path.{_≡_, refl, sym, _∙_, ap, subst}
 use mathlib.Core.Logic.{_⊎_, inl, inr, _↔_}
 use mathlib.Core.Bool.{Bool, true, false, _&&_, false≢true}
-use mathlib.Core.List.{List, [], _∷_, _++_}
-use mathlib.Core.Option.{Option, none, some, bind, bind-eq-some-iff, Option·map, map-eq-some-iff}
+use mathlib.Core.List.{List, [], _∷_}
+use mathlib.Core.Option.{Option, none, some, bind, bind-eq-some-iff, map-eq-some-iff}
 use Prim.Native.Nat.{ℕ, zero, suc, _<_, _≤_, zero-le, suc-le-suc}
 use native.Mathlib.Nat.{not-suc-le-zero, le-of-suc-le-suc, zero-lt-suc, le-refl}
 use native.Mathlib.Omega.{arith}
@@ -11,21 +11,20 @@ use native.Mathlib.Decide.{ℕ-discrete}
 use borrow.Author.Tests.{eqb-true, eq-eqb}
 use lib.Dec.{eqb}
 use lib.ListN.{length, getD, getElem?, set, replicate, length-set, length-replicate, getD-replicate}
-use lib.Seq.{getD-set-same, getD-set-other, set-getD}
-use Rattle.rules.specs.Choice.{pick}
-use Rattle.rules.specs.Lists.{At, _▷_, In}
+use lib.Seq.{getD-set-same, set-getD}
+use Rattle.rules.specs.Lists.{At, _▷_}
 use Rattle.rules.specs.Tables.{Path, Target, toKey, toName, Binding, NameTable}
 use Rattle.rules.specs.Names.{IsSelf, opener, Opens}
 use Rattle.rules.specs.Ranges.{GoodNames}
 use Rattle.rules.specs.Sheets.{entry, Exact}
-use Rattle.rules.specs.Following.{InSheet, Leads, PathLeads, NameLeads, TargetLeads}
+use Rattle.rules.specs.Following.{InSheet, Leads, PathLeads, TargetLeads}
 use Rattle.rules.specs.Filling.{Filling, AtRest}
-use Rattle.rules.specs.Rounds.{find, hasKey, isFor, keyOf, numberOf, opened, followed, targetKey, kept, fillOne, roundTo, round, rounds, sheetOf, empty}
+use Rattle.rules.specs.Rounds.{find, hasKey, isFor, keyOf, opened, followed, targetKey, fillOne, roundTo, round, rounds, sheetOf, empty}
 use Rattle.rules.specs.declared.Key.{Key}
 use Rattle.rules.specs.declared.Space.{Space}
 use Rattle.rules.proofs.ListsLaws.{at-head, at-tail, at-one, at-getD, some-at, at-some, in-last}
 use Rattle.rules.proofs.NamesLaws.{opens-one}
-use Rattle.rules.proofs.SheetsLaws.{filling-start, filling-step, rest-exact, rest-listed}
+use Rattle.rules.proofs.SheetsLaws.{filling-start, filling-step, rest-exact}
 
 -- ---- finding
 module _ {ℓ} {A : Type ℓ} (f : A → Bool) where

@@ -1,27 +1,26 @@
 -- A sheet filled from what stands already lists its bindings in order; at rest it is exact; and an exact sheet is one.
 use mathlib.Core.Path.{_≡_, refl, sym, _∙_, ap, subst}
 use mathlib.Core.Logic.{_⊎_, inl, inr, _↔_}
-use mathlib.Core.List.{List, [], _∷_, _++_, append-assoc, append-nil}
-use Prim.Native.Nat.{ℕ, zero, suc, _<_, _≤_}
-use native.Mathlib.Nat.{not-suc-le-zero, zero-lt-suc}
+use mathlib.Core.List.{List, [], _∷_}
+use Prim.Native.Nat.{ℕ, zero, suc, _<_}
+use native.Mathlib.Nat.{zero-lt-suc}
 use native.Mathlib.Omega.{arith}
 use native.Mathlib.Decide.{ℕ-discrete}
-use lib.ListN.{length, getD, set}
+use lib.ListN.{length, set}
 use lib.Seq.{getD-set-same, getD-set-other}
-use Rattle.rules.specs.Lists.{At, _▷_, In, NoneTwice}
-use Rattle.rules.specs.Tables.{Path, Target, toKey, toName, Binding, NameTable}
-use Rattle.rules.specs.Names.{IsSelf, Means, TargetMeans, BindingMeans}
+use Rattle.rules.specs.Lists.{At, _▷_, In}
+use Rattle.rules.specs.Tables.{Target, Binding, NameTable}
+use Rattle.rules.specs.Names.{TargetMeans, BindingMeans}
 use Rattle.rules.specs.Ranges.{GoodNames}
 use Rattle.rules.specs.Sheets.{entry, Exact}
-use Rattle.rules.specs.Following.{Account, InSheet, NameLeads, TargetLeads, having, MeansBy, Sound, Closed}
-use Rattle.rules.specs.Derivations.{chosen, only, MeansFrom, OrderedAfter, Ordered}
+use Rattle.rules.specs.Following.{Account, InSheet, TargetLeads, MeansBy, Sound, Closed}
+use Rattle.rules.specs.Derivations.{chosen, only}
 use Rattle.rules.specs.Filling.{Filling, AtRest}
 use Rattle.rules.specs.declared.Key.{Key}
-use Rattle.rules.specs.declared.Space.{Space}
-use Rattle.rules.proofs.ListsLaws.{at-one, at-getD, chosen-listed, listed-chosen, in-snoc, in-left, in-last, twice-snoc}
-use Rattle.rules.proofs.FollowingLaws.{name-means, target-means, means-name, means-target}
-use Rattle.rules.proofs.NamesLaws.{target-one, target-some, binding-one, binding-some}
-use Rattle.rules.proofs.ListedLaws.{only-means, target-only, target-only-more, ordered-snoc}
+use Rattle.rules.proofs.ListsLaws.{at-one, chosen-listed, listed-chosen, in-snoc, in-left, in-last, twice-snoc}
+use Rattle.rules.proofs.FollowingLaws.{target-means, means-target}
+use Rattle.rules.proofs.NamesLaws.{target-one, target-some, binding-some}
+use Rattle.rules.proofs.ListedLaws.{target-only, target-only-more, ordered-snoc}
 
 module _ (t : NameTable) where
   -- Nothing is filled yet.

@@ -1,21 +1,17 @@
 -- The specimen's rows, by computation.
-use mathlib.Core.Path.{_≡_, refl, sym, _∙_, ap, subst}
+use mathlib.Core.Path.{_≡_, refl, sym, _∙_}
 use mathlib.Core.List.{List, [], _∷_}
-use mathlib.Core.Option.{Option, none, some, bind}
+use mathlib.Core.Option.{none, some, bind}
 use Prim.Native.Nat.{ℕ}
 use native.Mathlib.Omega.{arith}
-use Rattle.rules.specs.Tables.{Table, Request}
 use Rattle.rules.specs.Names.{opener}
 use Rattle.rules.specs.Ranges.{Good}
-use Rattle.rules.specs.Sheets.{Exact}
 use Rattle.rules.specs.Rounds.{find, opened, followed, targetKey, fillOne, sheetOf}
 use Rattle.rules.specs.Translation.{accessKeys, delegationKeys}
 use Rattle.rules.specs.Greatest.{reached, verdict}
 use Rattle.rules.specs.Checking.{entered, rootReach, wroteReach, nameKey, goesOn, holdsAt}
-use Rattle.rules.specs.Derivations.{Derivation, Holds}
-use Rattle.rules.specs.Verdicts.{Verdict, Decides}
 use Rattle.rules.specs.Specimen.{specimen, Row, theSheet, decided, accepted, refused, Says, rows, AllSay}
-use Rattle.rules.proofs.GoodLaws.{goodTable, is-good}
+use Rattle.rules.proofs.GoodLaws.{is-good}
 use Rattle.rules.proofs.RoundsLaws.{sheet-exact}
 use Rattle.rules.proofs.VerdictsLaws.{verdict-right}
 use Rattle.rules.proofs.CheckingLaws.{check-right}

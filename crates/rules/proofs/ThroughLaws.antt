@@ -1,5 +1,5 @@
 -- Which bindings a name goes through, by its first name first.
-use mathlib.Core.Path.{_≡_, refl, sym, _∙_, ap, subst}
+use mathlib.Core.Path.{_≡_, refl, sym, ap, subst}
 use mathlib.Core.Logic.{_⊎_, inl, inr, _↔_}
 use mathlib.Core.List.{List, [], _∷_, _++_, append-assoc}
 use Prim.Native.Nat.{ℕ}
@@ -8,7 +8,7 @@ use Rattle.rules.specs.Tables.{Path, Target, toKey, toName, Binding, Nam
 use Rattle.rules.specs.Names.{IsSelf, opener, Opens, Means, self, boundToKey, boundToName, TargetMeans, BindingMeans, Through, TargetThrough}
 use Rattle.rules.specs.Ranges.{GoodNames}
 use Rattle.rules.specs.Sheets.{Exact}
-use Rattle.rules.specs.Following.{Account, InSheet, Leads, PathLeads, NameLeads, OpensAt, PathThrough}
+use Rattle.rules.specs.Following.{Account, InSheet, PathLeads, NameLeads, OpensAt, PathThrough}
 use Rattle.rules.specs.Derivations.{chosen, only, MeansFrom}
 use Rattle.rules.specs.declared.Key.{Key}
 use Rattle.rules.specs.declared.Space.{Space}

@@ -1,17 +1,17 @@
 -- Translation changes nothing: the key rules over the translated table grant each key exactly what the rules with names grant it.
 use mathlib.Core.Path.{_≡_, refl, sym, _∙_, ap, subst}
-use mathlib.Core.Logic.{_⊎_, inl, inr, _↔_}
+use mathlib.Core.Logic.{_↔_}
 use mathlib.Core.List.{List, [], _∷_}
-use mathlib.Core.Option.{Option, none, some, bind, bind-eq-some-iff, Option·some-injective}
-use Prim.Native.Nat.{ℕ, zero, suc, _<_}
+use mathlib.Core.Option.{Option, none, some, bind-eq-some-iff, Option·some-injective}
+use Prim.Native.Nat.{ℕ, zero, suc}
 use native.Mathlib.Nat.{not-suc-le-zero, le-of-suc-le-suc}
 use native.Mathlib.Omega.{arith}
-use lib.ListN.{length, getElem?}
+use lib.ListN.{getElem?}
 use Rattle.rules.specs.Lists.{At}
 use Rattle.rules.specs.Tables.{Path, AccessRecord, Delegation, Table, Asked}
 use Rattle.rules.specs.Names.{IsSelf}
 use Rattle.rules.specs.Ranges.{GoodNames}
-use Rattle.rules.specs.Access.{Setting, Granted, Name, Meaning, Lists, Writes, settingBy}
+use Rattle.rules.specs.Access.{Setting, Granted, Name, Meaning, settingBy}
 use Rattle.rules.specs.Derivations.{withSome}
 use Rattle.rules.specs.KeyTables.{KeyAccess, KeyDelegation, KeyTable, keySetting}
 use Rattle.rules.specs.Translation.{AccessToKeys, DelegationToKeys, InOrder, done, kept, omitted, Translates, Teller, accessKeys, delegationKeys, each, translate}

@@ -1,23 +1,22 @@
 -- The rules give a request one verdict, and it is the computed one.
-use mathlib.Core.Path.{_≡_, refl, sym, _∙_, ap, subst}
+use mathlib.Core.Path.{_≡_, refl, sym, _∙_}
 use mathlib.Core.Logic.{_↔_}
 use mathlib.Core.List.{List}
 use mathlib.Core.Option.{Option, none, some}
-use Prim.Native.Nat.{ℕ, _<_, _≤_}
+use Prim.Native.Nat.{ℕ, _≤_}
 use native.Mathlib.Omega.{arith}
-use lib.ListN.{length, getElem?}
+use lib.ListN.{getElem?}
 use Rattle.rules.specs.Lists.{At}
 use Rattle.rules.specs.Depths.{top}
-use Rattle.rules.specs.Tables.{Path, Target, toKey, toName, AccessRecord, Delegation, NameTable, Table, Asked, Request}
-use Rattle.rules.specs.Names.{IsSelf, Means, TargetMeans}
+use Rattle.rules.specs.Tables.{Target, toName, Table, Asked, Request}
+use Rattle.rules.specs.Names.{Means, TargetMeans}
 use Rattle.rules.specs.Ranges.{Good}
-use Rattle.rules.specs.Sheets.{Exact}
 use Rattle.rules.specs.Rounds.{sheetOf, targetKey}
 use Rattle.rules.specs.Access.{Setting, Granted, Chain, first, next, setting}
-use Rattle.rules.specs.KeyTables.{KeyAccess, KeyTable, KeyRequest, keySetting}
+use Rattle.rules.specs.KeyTables.{KeyAccess, keySetting}
 use Rattle.rules.specs.Translation.{AccessToKeys, Translates, translate}
-use Rattle.rules.specs.Verdicts.{Verdict, granted, unnamed, denied, Has, greatest, nothing, Decides, named, meansNothing}
-use Rattle.rules.specs.Greatest.{greatestCode, verdictOf, teller, verdictFor, verdict}
+use Rattle.rules.specs.Verdicts.{Verdict, Has, greatest, nothing, Decides, named, meansNothing}
+use Rattle.rules.specs.Greatest.{teller, verdictFor, verdict}
 use Rattle.rules.specs.declared.Key.{Key}
 use Rattle.rules.specs.declared.Space.{Space}
 use Rattle.rules.proofs.ListsLaws.{some-at, at-some, at-getD}

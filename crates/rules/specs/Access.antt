@@ -5,7 +5,7 @@ use mathlib.Core.List.{List, []}
 use Prim.Native.Nat.{ℕ, suc}
 use Rattle.rules.specs.Lists.{At, _▷_}
 use Rattle.rules.specs.Depths.{Above, Step}
-use Rattle.rules.specs.Tables.{Path, AccessRecord, Delegation, NameTable, Table, Asked}
+use Rattle.rules.specs.Tables.{Path, Table, Asked}
 use Rattle.rules.specs.Names.{IsSelf, Means}
 use Rattle.rules.specs.declared.Key.{Key}
 use Rattle.rules.specs.declared.Space.{Space}

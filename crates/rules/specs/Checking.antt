@@ -6,7 +6,7 @@ use Prim.Native.Nat.{ℕ, zero, suc}
 use lib.Dec.{eqb}
 use lib.ListN.{length, getElem?, set, replicate}
 use Rattle.rules.specs.Depths.{stepCode}
-use Rattle.rules.specs.Tables.{Target, toName, NameTable, Table, Asked, Request}
+use Rattle.rules.specs.Tables.{toName, NameTable, Table, Asked, Request}
 use Rattle.rules.specs.Sheets.{entry}
 use Rattle.rules.specs.Rounds.{targetKey}
 use Rattle.rules.specs.Access.{Name}

@@ -3,7 +3,6 @@ use mathlib.Core.Path.{_≡_}
 use Prim.Native.Nat.{ℕ, zero, suc, _≤_, _-_, min}
 use lib.Dec.{leb}
 use Rattle.rules.specs.Choice.{pick}
-use Rattle.rules.specs.declared.Depth.{Depth}
 use Rattle.rules.specs.declared.Made.{Made}
 use Rattle.rules.specs.declared.Made.the-variants.{Good, TooDeep}
 

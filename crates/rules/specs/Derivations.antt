@@ -1,14 +1,13 @@
 -- Derivations: what a reviewer is handed with a grant, and when one holds.
-use mathlib.Core.Path.{_≡_}
 use mathlib.Core.List.{List, [], _∷_}
 use mathlib.Core.Option.{Option, none, some}
 use Prim.Native.Nat.{ℕ, _≤_}
 use lib.ListN.{length, getElem?}
 use Rattle.rules.specs.Lists.{At, _▷_, In, NoneTwice}
 use Rattle.rules.specs.Depths.{top}
-use Rattle.rules.specs.Tables.{Path, Target, Binding, AccessRecord, Delegation, NameTable, Table, Request}
+use Rattle.rules.specs.Tables.{Binding, AccessRecord, Delegation, NameTable, Table, Request}
 use Rattle.rules.specs.Names.{Means, TargetMeans, Through, TargetThrough}
-use Rattle.rules.specs.Access.{Setting, Name, Chain, settingBy}
+use Rattle.rules.specs.Access.{Name, Chain, settingBy}
 use Rattle.rules.specs.declared.Key.{Key}
 
 -- Numbers of bindings; the chain: the number of an access record, then numbers of delegations.

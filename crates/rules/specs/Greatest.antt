@@ -13,7 +13,6 @@ use Rattle.rules.specs.KeyTables.{KeyAccess, KeyDelegation, KeyTable, Ke
 use Rattle.rules.specs.Translation.{Teller, translate}
 use Rattle.rules.specs.Verdicts.{Verdict, granted, unnamed, denied}
 use Rattle.rules.specs.declared.Key.{Key}
-use Rattle.rules.specs.declared.Space.{Space}
 
 -- What a record gives: a key, with the code of a depth.
 pub record Given : Type 0 where

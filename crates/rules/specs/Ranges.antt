@@ -1,11 +1,11 @@
 -- Which numbers the fields of a table may hold, and what a good table is.
 use mathlib.Core.Path.{_≡_}
-use mathlib.Core.List.{List, [], _∷_}
 use Prim.Native.Nat.{ℕ, _<_, _≤_}
 use lib.ListN.{length}
 use Rattle.rules.specs.Lists.{At}
 use Rattle.rules.specs.Depths.{top}
-use Rattle.rules.specs.Tables.{Path, Target, toKey, toName, Binding, AccessRecord, Delegation, NameTable, Table}
+use Rattle.rules.specs.Tables.{Path, Target, toKey, toName, Binding, AccessRecord, Delegation, NameTable, Table, Request}
+use Rattle.rules.specs.KeyTables.{KeyAccess, KeyDelegation, KeyTable, KeyRequest}
 use Rattle.rules.specs.Names.{IsSelf}
 use Rattle.rules.specs.declared.Key.{Key}
 use Rattle.rules.specs.declared.Space.{Space}
@@ -91,5 +91,40 @@ pub record Good (t : Table) : Type 0 where
   pub delegations : (j : ℕ) (x : Delegation) → At (t .delegations) j x → GoodDelegation (length (t .names .spaces)) x
   pub fewSpaces : length (t .names .spaces) ≤ mostSpaces
   pub fewBindings : length (t .names .bindings) ≤ mostBindings
+  pub fewAccesses : length (t .accesses) ≤ mostAccesses
+  pub fewDelegations : length (t .delegations) ≤ mostDelegations
+
+-- What is asked for by a good request.
+pub record GoodRequest (spaces : ℕ) (r : Request) : Type 0 where
+  pub subject : GoodTarget spaces (r .subject)
+  pub owner : r .asked .owner .0 < spaces
+  pub object : r .asked .object ≤ mostObject
+  pub right : Between 1 mostRight (r .asked .right)
+
+-- ---- the same of key tables
+pub record GoodKeyAccess (x : KeyAccess) : Type 0 where
+  pub owner : GoodKey (x .owner)
+  pub object : x .object ≤ mostObject
+  pub right : Between 1 mostRight (x .right)
+  pub subject : GoodKey (x .subject)
+  pub depth : x .depth ≤ top
+
+pub record GoodKeyDelegation (x : KeyDelegation) : Type 0 where
+  pub writer : GoodKey (x .writer)
+  pub owner : GoodKey (x .owner)
+  pub object : x .object ≤ mostObject
+  pub right : Between 1 mostRight (x .right)
+  pub delegatee : GoodKey (x .delegatee)
+  pub depth : x .depth ≤ top
+
+pub record GoodKeyRequest (r : KeyRequest) : Type 0 where
+  pub subject : GoodKey (r .subject)
+  pub owner : GoodKey (r .asked .owner)
+  pub object : r .asked .object ≤ mostObject
+  pub right : Between 1 mostRight (r .asked .right)
+
+pub record GoodKeyTable (t : KeyTable) : Type 0 where
+  pub accesses : (i : ℕ) (x : KeyAccess) → At (t .accesses) i x → GoodKeyAccess x
+  pub delegations : (j : ℕ) (x : KeyDelegation) → At (t .delegations) j x → GoodKeyDelegation x
   pub fewAccesses : length (t .accesses) ≤ mostAccesses
   pub fewDelegations : length (t .delegations) ≤ mostDelegations

@@ -1,5 +1,5 @@
 -- The name sheet, computed: rounds in place over the bindings, until one changes nothing.
-use mathlib.Core.Bool.{Bool, true, false, _&&_}
+use mathlib.Core.Bool.{Bool, _&&_}
 use mathlib.Core.List.{List, [], _∷_}
 use mathlib.Core.Option.{Option, none, some, bind, Option·map}
 use Prim.Native.Nat.{ℕ, zero, suc}

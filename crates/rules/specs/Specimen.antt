@@ -1,7 +1,7 @@
 -- The specimen table of the scope paper, and what is to hold of it.
 use mathlib.Core.List.{List, [], _∷_}
 use Prim.Native.Nat.{ℕ}
-use Rattle.rules.specs.Tables.{Path, Target, toKey, toName, Binding, AccessRecord, Delegation, Table, Request}
+use Rattle.rules.specs.Tables.{Target, toKey, toName, Binding, Table, Request}
 use Rattle.rules.specs.Sheets.{Exact}
 use Rattle.rules.specs.Derivations.{Derivation, Holds}
 use Rattle.rules.specs.Verdicts.{Verdict, granted, unnamed, denied, Decides}

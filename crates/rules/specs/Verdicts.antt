@@ -1,6 +1,6 @@
 -- What the rules say of a request.
 use Prim.Native.Nat.{ℕ, _≤_}
-use Rattle.rules.specs.Tables.{Target, Table, Request}
+use Rattle.rules.specs.Tables.{Table, Request}
 use Rattle.rules.specs.Names.{TargetMeans}
 use Rattle.rules.specs.Access.{Setting, Granted, setting}
 use Rattle.rules.specs.KeyTables.{KeyTable, KeyRequest, keySetting}

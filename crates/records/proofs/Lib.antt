@@ -1,0 +1,22 @@
+-- Laws of records: what the code's readers and writers do, and that each record has one form.
+pub mod ParsedLaws
+pub mod FormatLaws
+pub mod FieldsLaws
+pub mod PathsLaws
+pub mod TargetsLaws
+pub mod BindingsLaws
+pub mod AccessesLaws
+pub mod DelegationsLaws
+pub mod KeyRecordsLaws
+pub mod RequestsLaws
+pub mod ManyLaws
+pub mod WritingLaws
+pub mod PutLaws
+pub mod DerivationBytesLaws
+pub mod ManyForm
+pub mod FieldsForm
+pub mod PathsForm
+pub mod RecordsForm
+pub mod KeyRecordsForm
+pub mod RequestsForm
+pub mod DerivationForm

@@ -1,0 +1,12 @@
+pub mod Parsed
+pub mod Fields
+pub mod Paths
+pub mod Targets
+pub mod Many
+pub mod Bindings
+pub mod Accesses
+pub mod Delegations
+pub mod KeyRecords
+pub mod Requests
+pub mod DerivationBytes
+pub mod Numbers

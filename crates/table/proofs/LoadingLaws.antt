@@ -1,0 +1,64 @@
+-- Records of a section, read in a loop, each from the rest of the bytes.
+use mathlib.Core.Path.{_≡_, sym, _∙_, ap}
+use mathlib.Core.List.{List, []}
+use Prim.Native.Nat.{ℕ, _+_, _-_, _<_, _≤_}
+use native.Mathlib.Omega.{arith}
+use native.Mathlib.Nat.{add-zero}
+use lib.ListN.{length, take, drop, length-drop}
+use Rattle.rules.specs.Lists.{_▷_}
+use Rattle.wire.proofs.PartsLaws.{rest-of}
+use Rattle.records.specs.Parsed.{got, bad, Reader, movedFault, movedBy}
+use Rattle.records.specs.Many.{many}
+use Rattle.records.specs.declared.faults.Fault.{Fault}
+use Rattle.records.proofs.FormatLaws.{Walks}
+use Rattle.records.proofs.ManyLaws.{Going, going-start, going-on, going-bad, going-end}
+use Rattle.table.specs.Sections.{afterRead}
+use Rattle.table.specs.declared.loading.After.the-variants as after
+
+-- The bytes from a place on, as code passes them.
+abbrev pub rest : List ℕ → ℕ → List ℕ
+rest s at = take (length s - at) (drop at s)
+
+module _ {A : Type 0} (P : List A → Reader A) (walks : (earlier : List A) → Walks (P earlier)) (s : List ℕ) where
+  -- What stands at a place is what the bytes from there begin with.
+  from-there : (earlier : List A) (at : ℕ) → P earlier s at ≡ movedBy at (P earlier (rest s at) 0)
+  from-there earlier at =
+      ap (P earlier s) (sym (add-zero at)) ∙ walks earlier .moves s at 0 ∙ ap (λ (l : List ℕ). movedBy at (P earlier l 0)) (sym (rest-of s at))
+
+  module _ (earlier : List A) (at : ℕ) (h : at ≤ length s) where
+    size : at + length (rest s at) ≡ length s
+    size = omega (arith, ap length (rest-of s at), length-drop at s)
+
+    there-got : (x : A) (n : ℕ) → P earlier (rest s at) 0 ≡ got x n → (P earlier s at ≡ got x (at + n)) × (at + n ≤ length s)
+    there-got x n e = (from-there earlier at ∙ ap (movedBy at) e, omega (arith, size, walks earlier .ends x (rest s at) 0 n (omega arith) e .1))
+
+    there-bad : (e : Fault) → P earlier (rest s at) 0 ≡ bad e → (P earlier s at ≡ bad (movedFault at e)) × (at + e .place .offset ≤ length s)
+    there-bad e q = (from-there earlier at ∙ ap (movedBy at) q, omega (arith, size, walks earlier .within e (rest s at) 0 (omega arith) q))
+
+  -- Of `count` records from `from` on, these `i` were read, and the next stands at `at`.
+  pub record Reading (count from at i : ℕ) (earlier : List A) : Type 0 where
+    pub most : i ≤ count
+    pub within : at ≤ length s
+    pub going : Going P s count from i at earlier
+
+  pub reading-start : (count from : ℕ) → from ≤ length s → Reading count from from 0 []
+  reading-start count from h = record { most = omega arith; within = h; going = going-start P s count from }
+
+  module _ (count from at i : ℕ) (earlier : List A) (r : Reading count from at i earlier) where
+    pub reading-fits : (x : A) (n : ℕ) → P earlier (rest s at) 0 ≡ got x n → at + n ≤ length s
+    reading-fits x n e = there-got earlier at (r .within) x n e .1
+
+    pub fault-fits : (e : Fault) → P earlier (rest s at) 0 ≡ bad e → at + e .place .offset ≤ length s
+    fault-fits e q = there-bad earlier at (r .within) e q .1
+
+    module _ (h : i < count) where
+      pub reading-on : (x : A) (n : ℕ) → P earlier (rest s at) 0 ≡ got x n → Reading count from (at + n) (i + 1) (earlier ▷ x)
+      reading-on x n e =
+          let w = there-got earlier at (r .within) x n e in
+          record { most = omega arith; within = w .1; going = going-on P s count from i at earlier (r .going) h x (at + n) (w .0) }
+
+      pub reading-bad : (e g : Fault) → P earlier (rest s at) 0 ≡ bad e → g ≡ movedFault at e → after.Fault g ≡ afterRead (many P count [] s from)
+      reading-bad e g q m = ap after.Fault m ∙ ap afterRead (sym (going-bad P s count from i at earlier (r .going) h (movedFault at e) (there-bad earlier at (r .within) e q .0)))
+
+    pub reading-end : count ≤ i → after.At at ≡ afterRead (many P count [] s from)
+    reading-end h = ap afterRead (sym (going-end P s count from i at earlier (r .going) h))

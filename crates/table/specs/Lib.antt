@@ -1,0 +1,4 @@
+pub mod Sections
+pub mod ReadTable
+pub mod ReadKeyTable
+pub mod Finding

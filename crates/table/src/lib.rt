@@ -1,0 +1,72 @@
+// Whole tables: every fault in its order, where the sections begin, and finding a space by its key and a binding by its name.
+ghost use mathlib.Core.Path.{_≡_};
+ghost use Rattle.table.specs.ReadTable.{readTable, loadedOf};
+use crate::loading::Section;
+use crate::loading::SectionRead;
+use crate::loading::load_accesses;
+use crate::loading::load_bindings;
+use crate::loading::load_delegations;
+use crate::loading::load_spaces;
+use crate::loading::read_version;
+use crate::loading::section_fault;
+use records::faults::Fault;
+use records::faults::Kind;
+use records::faults::fault_at;
+use records::fields::Field;
+use records::fields::field_fault;
+
+pub mod finding;
+pub mod loading;
+
+pub const MOST_TABLE: usize = 32768;
+
+// How many records of each kind there are, and where the first of each begins.
+pub struct Sections {
+    pub spaces: Section,
+    pub bindings: Section,
+    pub accesses: Section,
+    pub delegations: Section,
+}
+
+pub enum Loaded {
+    Good(Sections),
+    Bad(Fault),
+}
+
+// Reads the table whole.
+pub fn load(table: &[u8]) -> Loaded
+    ensures { λ r. ⌜ r ≡ loadedOf (readTable (now (table .entry))) ⌝ }
+{
+    if MOST_TABLE < table.len() {
+        return Loaded::Bad(fault_at(Kind::Long, 0));
+    }
+    let version = read_version(table, 1);
+    let Field::Value(_, at1) = version else {
+        return Loaded::Bad(field_fault(version));
+    };
+    let first = load_spaces(table, at1);
+    let SectionRead::Section(spaces, at2) = first else {
+        return Loaded::Bad(section_fault(first));
+    };
+    let second = load_bindings(table, at2, spaces.count);
+    let SectionRead::Section(bindings, at3) = second else {
+        return Loaded::Bad(section_fault(second));
+    };
+    let third = load_accesses(table, at3, spaces.count);
+    let SectionRead::Section(accesses, at4) = third else {
+        return Loaded::Bad(section_fault(third));
+    };
+    let fourth = load_delegations(table, at4, spaces.count);
+    let SectionRead::Section(delegations, end) = fourth else {
+        return Loaded::Bad(section_fault(fourth));
+    };
+    if end == table.len() {
+        return Loaded::Good(Sections {
+            spaces,
+            bindings,
+            accesses,
+            delegations,
+        });
+    }
+    Loaded::Bad(fault_at(Kind::Extra, end))
+}

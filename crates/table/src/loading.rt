@@ -1,0 +1,245 @@
+// Sections: a count, and so many records.
+ghost use mathlib.Core.Path.{_≡_};
+ghost use mathlib.Core.List.{[]};
+ghost use Prim.Native.Nat.{_≤_};
+ghost use lib.ListN.{length};
+ghost use Rattle.rules.specs.Ranges.{mostSpaces, mostBindings, mostAccesses, mostDelegations};
+ghost use Rattle.records.specs.Fields.{fieldRead};
+ghost use Rattle.records.specs.Many.{many};
+ghost use Rattle.records.specs.Bindings.{bindingRecord, isBound};
+ghost use Rattle.records.specs.Accesses.{accessRecord};
+ghost use Rattle.records.specs.Delegations.{delegationRecord};
+ghost use Rattle.table.specs.Sections.{version, section, sectionRead, sectionFault, afterRead, afterFault};
+ghost use Rattle.table.specs.ReadTable.{spaceKey};
+use records::accesses::AccessRead;
+use records::accesses::read_access;
+use records::bindings::BindingRead;
+use records::bindings::is_among;
+use records::bindings::pack;
+use records::bindings::read_binding;
+use records::delegations::DelegationRead;
+use records::delegations::read_delegation;
+use records::faults::Fault;
+use records::faults::Kind;
+use records::faults::fault_at;
+use records::faults::moved;
+use records::fields::Field;
+use records::fields::KeyRead;
+use records::fields::field_fault;
+use records::fields::key_fault;
+use records::fields::read_field;
+use records::fields::read_key;
+use records::fields::read_number;
+
+pub const MOST_SPACES: u32 = 64;
+
+pub const MOST_BINDINGS: u32 = 256;
+
+pub const MOST_ACCESSES: u32 = 256;
+
+pub const MOST_DELEGATIONS: u32 = 512;
+
+// How many records there are, and where the first begins.
+pub struct Section {
+    pub count: usize,
+    pub first: usize,
+}
+
+// A section, with the place after it.
+pub enum SectionRead {
+    Section(Section, usize),
+    Fault(Fault),
+}
+
+// The place after records that were read.
+pub enum After {
+    At(usize),
+    Fault(Fault),
+}
+
+// The version at the beginning, which is to be this one.
+pub fn read_version(table: &[u8], wanted: u32) -> Field
+    ensures { λ r. ⌜ r ≡ fieldRead (version wanted (now (table .entry)) 0) ⌝ }
+{
+    let number = read_number(table, 0);
+    let Field::Value(found, at) = number else {
+        return Field::Fault(field_fault(number));
+    };
+    if found == wanted {
+        return Field::Value(found, at);
+    }
+    Field::Fault(fault_at(Kind::Version, 0))
+}
+
+// So many spaces from a place on; their keys are kept in `keys`.
+fn read_spaces(table: &[u8], from: usize, count: usize, keys: &mut [u32]) -> After
+    requires { ⌜ count ≤ length (now keys) ⌝ }
+    ensures { λ r. ⌜ r ≡ afterRead (many spaceKey count [] (now (table .entry)) from) ⌝ }
+{
+    let mut at = from;
+    let mut i = 0;
+    while i < count {
+        let found = read_key(table, at);
+        let KeyRead::Key(key, next) = found else {
+            return After::Fault(key_fault(found));
+        };
+        if is_among(&keys[..i], key.0) {
+            return After::Fault(fault_at(Kind::Twice, at));
+        }
+        keys[i] = key.0;
+        at = next;
+        i = i + 1;
+    }
+    After::At(at)
+}
+
+// So many bindings from a place on; the names that they bind are kept in `names`, packed.
+fn read_bindings(table: &[u8], from: usize, count: usize, spaces: usize, names: &mut [u32]) -> After
+    requires { ⌜ (count ≤ length (now names)) × (spaces ≤ mostSpaces) × (from ≤ length (now table)) ⌝ }
+    ensures { λ r. ⌜ r ≡ afterRead (many (λ earlier. bindingRecord spaces (isBound earlier)) count [] (now (table .entry)) from) ⌝ }
+{
+    let mut at = from;
+    let mut i = 0;
+    while i < count {
+        match read_binding(&table[at..], spaces, &names[..i]) {
+            BindingRead::Binding(binding, taken) => {
+                names[i] = pack(binding.space, binding.base);
+                at = at + taken;
+                i = i + 1;
+            }
+            BindingRead::Fault(fault) => {
+                return After::Fault(moved(fault, at));
+            }
+        }
+    }
+    After::At(at)
+}
+
+// So many access records from a place on.
+fn read_accesses(table: &[u8], from: usize, count: usize, spaces: usize) -> After
+    requires { ⌜ from ≤ length (now table) ⌝ }
+    ensures { λ r. ⌜ r ≡ afterRead (many (λ earlier. accessRecord spaces) count [] (now (table .entry)) from) ⌝ }
+{
+    let mut at = from;
+    let mut i = 0;
+    while i < count {
+        match read_access(&table[at..], spaces) {
+            AccessRead::Access(_, taken) => {
+                at = at + taken;
+                i = i + 1;
+            }
+            AccessRead::Fault(fault) => {
+                return After::Fault(moved(fault, at));
+            }
+        }
+    }
+    After::At(at)
+}
+
+// So many delegations from a place on.
+fn read_delegations(table: &[u8], from: usize, count: usize, spaces: usize) -> After
+    requires { ⌜ from ≤ length (now table) ⌝ }
+    ensures { λ r. ⌜ r ≡ afterRead (many (λ earlier. delegationRecord spaces) count [] (now (table .entry)) from) ⌝ }
+{
+    let mut at = from;
+    let mut i = 0;
+    while i < count {
+        match read_delegation(&table[at..], spaces) {
+            DelegationRead::Delegation(_, taken) => {
+                at = at + taken;
+                i = i + 1;
+            }
+            DelegationRead::Fault(fault) => {
+                return After::Fault(moved(fault, at));
+            }
+        }
+    }
+    After::At(at)
+}
+
+// The section of the spaces.
+pub fn load_spaces(table: &[u8], from: usize) -> SectionRead
+    ensures { λ r. ⌜ r ≡ sectionRead (section mostSpaces spaceKey (now (table .entry)) from) ⌝ }
+{
+    let header = read_field(table, from, 0, MOST_SPACES);
+    let Field::Value(number, first) = header else {
+        return SectionRead::Fault(field_fault(header));
+    };
+    let count = number as usize;
+    let mut keys = [0; 64];
+    let rest = read_spaces(table, first, count, &mut keys);
+    let After::At(at) = rest else {
+        return SectionRead::Fault(after_fault(rest));
+    };
+    SectionRead::Section(Section { count, first }, at)
+}
+
+// The section of the bindings.
+pub fn load_bindings(table: &[u8], from: usize, spaces: usize) -> SectionRead
+    requires { ⌜ (spaces ≤ mostSpaces) × (from ≤ length (now table)) ⌝ }
+    ensures { λ r. ⌜ r ≡ sectionRead (section mostBindings (λ earlier. bindingRecord spaces (isBound earlier)) (now (table .entry)) from) ⌝ }
+{
+    let header = read_field(table, from, 0, MOST_BINDINGS);
+    let Field::Value(number, first) = header else {
+        return SectionRead::Fault(field_fault(header));
+    };
+    let count = number as usize;
+    let mut names = [0; 256];
+    let rest = read_bindings(table, first, count, spaces, &mut names);
+    let After::At(at) = rest else {
+        return SectionRead::Fault(after_fault(rest));
+    };
+    SectionRead::Section(Section { count, first }, at)
+}
+
+// The section of the access records.
+pub fn load_accesses(table: &[u8], from: usize, spaces: usize) -> SectionRead
+    requires { ⌜ from ≤ length (now table) ⌝ }
+    ensures { λ r. ⌜ r ≡ sectionRead (section mostAccesses (λ earlier. accessRecord spaces) (now (table .entry)) from) ⌝ }
+{
+    let header = read_field(table, from, 0, MOST_ACCESSES);
+    let Field::Value(number, first) = header else {
+        return SectionRead::Fault(field_fault(header));
+    };
+    let count = number as usize;
+    let rest = read_accesses(table, first, count, spaces);
+    let After::At(at) = rest else {
+        return SectionRead::Fault(after_fault(rest));
+    };
+    SectionRead::Section(Section { count, first }, at)
+}
+
+// The section of the delegations.
+pub fn load_delegations(table: &[u8], from: usize, spaces: usize) -> SectionRead
+    requires { ⌜ from ≤ length (now table) ⌝ }
+    ensures { λ r. ⌜ r ≡ sectionRead (section mostDelegations (λ earlier. delegationRecord spaces) (now (table .entry)) from) ⌝ }
+{
+    let header = read_field(table, from, 0, MOST_DELEGATIONS);
+    let Field::Value(number, first) = header else {
+        return SectionRead::Fault(field_fault(header));
+    };
+    let count = number as usize;
+    let rest = read_delegations(table, first, count, spaces);
+    let After::At(at) = rest else {
+        return SectionRead::Fault(after_fault(rest));
+    };
+    SectionRead::Section(Section { count, first }, at)
+}
+
+pub fn after_fault(rest: After) -> Fault
+    ensures { λ r. ⌜ r ≡ afterFault rest ⌝ }
+{
+    match rest {
+        After::At(_) => fault_at(Kind::Range, 0),
+        After::Fault(fault) => fault,
+    }
+}
+
+pub fn section_fault(read: SectionRead) -> Fault
+    ensures { λ r. ⌜ r ≡ sectionFault read ⌝ }
+{
+    match read {
+        SectionRead::Section(_, _) => fault_at(Kind::Range, 0),
+        SectionRead::Fault(fault) => fault,
+    }
+}

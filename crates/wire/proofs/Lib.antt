@@ -1,0 +1,8 @@
+-- Laws of numbers as bytes, and of bytes that are written.
+pub mod PartsLaws
+pub mod PlacedLaws
+mod GroupsLaws
+pub mod NumberLaws
+mod ReadingLaws
+mod WritingLaws
+mod Examples
