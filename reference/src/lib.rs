@@ -16,6 +16,7 @@ pub mod line;
 pub mod names;
 pub mod number;
 pub mod request;
+pub mod rows;
 pub mod show;
 pub mod table;
 pub mod translate;

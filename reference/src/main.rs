@@ -5,14 +5,16 @@ use std::io::{self, BufWriter, Read, Write};
 use std::process::ExitCode;
 
 use reference::answer::word;
-use reference::cases::{kinds, make_case, read_cases, write_case, Kind};
+use reference::cases::{kinds, make_case, read_cases, write_case, Case, Kind};
 use reference::compare::compare;
 use reference::line::answer_line;
 use reference::read_table;
+use reference::rows;
 use reference::show::show;
 
 const USAGE: &str = "usage:
   reference cases SEED COUNT [KINDS] > CASES   make cases (KINDS: a comma list, like 1,10)
+  reference rows reading > CASES               document 01's rows and its limits at their edges
   reference answers < CASES > LINES            the answer line of each case
   reference compare CASES LINES                compare LINES with our own answers
   reference show < TABLE                       a table in readable columns
@@ -53,6 +55,7 @@ fn run(words: &[&str]) -> Result<ExitCode, Failure> {
     match words {
         ["cases", seed, count] => make_cases(seed, count, None),
         ["cases", seed, count, kinds] => make_cases(seed, count, Some(kinds)),
+        ["rows", "reading"] => write_rows(&rows::reading()),
         ["answers"] => answer_cases(),
         ["compare", cases, lines] => compare_files(cases, lines),
         ["show"] => show_table(),
@@ -78,6 +81,15 @@ fn make_cases(seed: &str, count: &str, kinds: Option<&str>) -> Result<ExitCode, 
         out.write_all(&bytes)?;
     }
     out.flush()?;
+    Ok(ExitCode::SUCCESS)
+}
+
+fn write_rows(rows: &[Case]) -> Result<ExitCode, Failure> {
+    let mut bytes = Vec::new();
+    for case in rows {
+        write_case(&mut bytes, case);
+    }
+    io::stdout().lock().write_all(&bytes)?;
     Ok(ExitCode::SUCCESS)
 }
 

@@ -6,7 +6,8 @@ use mathlib.Core.Option.{Option, none, some}
 use Prim.Native.Nat.{ℕ, zero, suc, _<_, suc-le-suc}
 use native.Mathlib.Nat.{not-suc-le-zero, le-of-suc-le-suc, zero-lt-suc}
 use native.Mathlib.Omega.{arith}
-use lib.ListN.{length, getD, getElem?}
+use lib.ListN.{length, getD, getElem?, length-append, List·getD-append}
+use lib.Seq.{getD-append-seam}
 use Rattle.rules.specs.Lists.{At, _▷_, In, NoneTwice}
 use Rattle.rules.specs.Derivations.{withSome, chosen}
 
@@ -32,6 +33,15 @@ module _ {ℓ} {A : Type ℓ} where
 
   pub at-tail : {l : List A} {i : ℕ} {x y : A} → At l i x → At (y ∷ l) (suc i) x
   at-tail a = record { there = suc-le-suc (a .there); is = a .is }
+
+  -- The last of a list, and those before it.
+  pub at-end : (l : List A) (x : A) → At (l ▷ x) (length l) x
+  at-end l x = record { there = omega (arith, length-append l (x ∷ [])); is = getD-append-seam l x [] x }
+
+  pub at-before : (l : List A) (x : A) (i : ℕ) (y : A) → At (l ▷ x) i y → (i ≡ length l → ⊥) → At l i y
+  at-before l x i y a n =
+      let h : i < length l = omega (arith, a .there, length-append l (x ∷ [])) in
+      record { there = h; is = sym (List·getD-append l (x ∷ []) y i h) ∙ a .is }
 
   -- ---- elements that have the listed numbers
   pub some-at : (l : List A) (i : ℕ) (x : A) → getElem? l i ≡ some x → At l i x

@@ -15,7 +15,7 @@ use Rattle.records.specs.Bindings.{packed}
 use Rattle.table.specs.Finding.{FindsSpace, has, nobody, FindsBinding, opens, nothing, keysOf, Names}
 use Rattle.table.specs.declared.finding.SpaceFound.the-variants as space
 use Rattle.table.specs.declared.finding.BindingFound.the-variants as binding
-use Rattle.table.proofs.KeptLaws.{nameOf}
+use Rattle.table.specs.Kept.{nameOf}
 
 -- The first `i` numbers are others.
 pub record Passed (l : List ℕ) (n i : ℕ) : Type 0 where

@@ -3,23 +3,23 @@ use mathlib.Core.Path.{_≡_, refl, sym, _∙_, ap, ap₂}
 use mathlib.Core.Bool.{Bool, true, false, _&&_}
 use mathlib.Core.List.{List, [], _∷_, map}
 use Prim.Native.Nat.{ℕ, suc, _<_, _≤_}
+use native.Mathlib.Nat.{not-suc-le-zero}
 use native.Mathlib.Omega.{arith}
 use native.Mathlib.Decide.{ℕ-discrete}
 use lib.Dec.{eqb}
-use lib.ListN.{length, take, set, length-append}
-use lib.Seq.{take-suc-set}
+use lib.ListN.{length, take, getD, set, length-append}
+use lib.Seq.{take-suc-set, getD-set-same, getD-set-other}
 use borrow.Author.Tests.{eq-eqb, ne-eqb}
 use Rattle.rules.specs.Choice.{pick}
-use Rattle.rules.specs.Lists.{_▷_}
+use Rattle.rules.specs.Lists.{At, _▷_}
 use Rattle.rules.specs.Ranges.{mostBase}
 use Rattle.rules.specs.Tables.{Binding}
 use Rattle.rules.specs.declared.Space.{Space}
 use Rattle.records.specs.Bindings.{isBound, isAmong, packed}
+use Rattle.records.specs.Parsed.{got, Reader}
 use Rattle.records.proofs.DerivationBytesLaws.{among-snoc}
-
--- The first entries of an array, one for each that was kept.
-pub record Kept {A : Type 0} (f : A → ℕ) (entries : List ℕ) (earlier : List A) : Type 0 where
-  pub same : take (length earlier) entries ≡ map f earlier
+use Rattle.rules.proofs.ListsLaws.{at-one, at-end, at-before}
+use Rattle.table.specs.Kept.{Kept, Standing, nameOf}
 
 module _ {A : Type 0} (f : A → ℕ) where
   pub map-snoc : (l : List A) (x : A) → map f (l ▷ x) ≡ map f l ▷ f x
@@ -37,10 +37,20 @@ module _ {A : Type 0} (f : A → ℕ) where
         same = ap (λ (j : ℕ). take j (set entries n v)) m ∙ take-suc-set entries n v h ∙ ap₂ (λ (l : List ℕ) (w : ℕ). l ▷ w) (k .same) e ∙ sym (map-snoc earlier x);
       }
 
--- ---- names
-abbrev pub nameOf : Binding → ℕ
-nameOf x = packed (x .space) (x .base)
+-- ---- places
+module _ {A : Type 0} (P : Reader A) (s : List ℕ) where
+  pub standing-none : (places : List ℕ) → Standing P s places []
+  standing-none places = record { stands = λ i x a. absurd (not-suc-le-zero (a .there)) }
 
+  pub standing-more : (places : List ℕ) (earlier : List A) (x : A) (at next : ℕ) → length earlier < length places → P s at ≡ got x next → Standing P s places earlier
+      → Standing P s (set places (length earlier) at) (earlier ▷ x)
+  standing-more places earlier x at next h e w = record { stands = λ i y a. go i y a (ℕ-discrete i (length earlier)) }
+    where
+      go : (i : ℕ) (y : A) → At (earlier ▷ x) i y → Dec (i ≡ length earlier) → (n : ℕ) × (P s (getD (set places (length earlier) at) i 0) ≡ got y n)
+      go i y a (yes q) = (next, rw (q, getD-set-same places (length earlier) at 0 h, ← at-one (at-end earlier x) (rw q at a)) e)
+      go i y a (no q) = let r = w .stands i y (at-before earlier x i y a q) in (r .0, rw (getD-set-other places (length earlier) i at 0 q) (r .1))
+
+-- ---- names
 -- Every base name is in its range.
 pub data Bases : List Binding → Type 0 where
   none : Bases []

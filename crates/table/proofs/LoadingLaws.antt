@@ -1,5 +1,5 @@
 -- Records of a section, read in a loop, each from the rest of the bytes.
-use mathlib.Core.Path.{_≡_, sym, _∙_, ap}
+use mathlib.Core.Path.{_≡_, sym, _∙_, ap, subst}
 use mathlib.Core.List.{List, []}
 use Prim.Native.Nat.{ℕ, _+_, _-_, _<_, _≤_}
 use native.Mathlib.Omega.{arith}
@@ -7,13 +7,28 @@ use native.Mathlib.Nat.{add-zero}
 use lib.ListN.{length, take, drop, length-drop}
 use Rattle.rules.specs.Lists.{_▷_}
 use Rattle.wire.proofs.PartsLaws.{rest-of}
-use Rattle.records.specs.Parsed.{got, bad, Reader, movedFault, movedBy}
+use Rattle.records.specs.Parsed.{Parsed, got, bad, Reader, movedFault, movedBy}
 use Rattle.records.specs.Many.{many}
 use Rattle.records.specs.declared.faults.Fault.{Fault}
 use Rattle.records.proofs.FormatLaws.{Walks}
 use Rattle.records.proofs.ManyLaws.{Going, going-start, going-on, going-bad, going-end}
 use Rattle.table.specs.Sections.{afterRead}
+use Rattle.table.specs.Kept.{IfGood}
 use Rattle.table.specs.declared.loading.After.the-variants as after
+
+-- ---- an answer, and what holds besides if all is well
+module _ {A R : Type 0} (asAnswer : Parsed A → R) (K : A → Type 0) (r : R) (p : Parsed A) where
+  abbrev pub Besides : Type 0
+  Besides = (r ≡ asAnswer p) × IfGood p K
+
+  pub ill : ((x : A) (at : ℕ) → r ≡ asAnswer (got x at) → ⊥) → r ≡ asAnswer p → Besides
+  ill apart e = (e, λ x at q. absurd (apart x at (e ∙ ap asAnswer q)))
+
+  pub well : (x : A) (at : ℕ) → p ≡ got x at → K x → r ≡ asAnswer p → Besides
+  well x at g k e = (e, λ y n q. let h : _≡_ {A = Parsed A} (got x at) (got y n) = sym g ∙ q in let i : x ≡ y = cc h in subst K i k)
+
+pub after-apart : {A : Type 0} (f : Fault) (l : List A) (at : ℕ) → after.Fault f ≡ afterRead (got l at) → ⊥
+after-apart f l at e = let z : _≡_ {A = ℕ} 0 1 = cc in absurd (omega arith)
 
 -- The bytes from a place on, as code passes them.
 abbrev pub rest : List ℕ → ℕ → List ℕ
@@ -45,6 +60,9 @@ module _ {A : Type 0} (P : List A → Reader A) (walks : (earlier : List A) → 
   reading-start count from h = record { most = omega arith; within = h; going = going-start P s count from }
 
   module _ (count from at i : ℕ) (earlier : List A) (r : Reading count from at i earlier) where
+    pub reading-there : (x : A) (n : ℕ) → P earlier (rest s at) 0 ≡ got x n → P earlier s at ≡ got x (at + n)
+    reading-there x n e = there-got earlier at (r .within) x n e .0
+
     pub reading-fits : (x : A) (n : ℕ) → P earlier (rest s at) 0 ≡ got x n → at + n ≤ length s
     reading-fits x n e = there-got earlier at (r .within) x n e .1
 
@@ -57,8 +75,12 @@ module _ {A : Type 0} (P : List A → Reader A) (walks : (earlier : List A) → 
           let w = there-got earlier at (r .within) x n e in
           record { most = omega arith; within = w .1; going = going-on P s count from i at earlier (r .going) h x (at + n) (w .0) }
 
-      pub reading-bad : (e g : Fault) → P earlier (rest s at) 0 ≡ bad e → g ≡ movedFault at e → after.Fault g ≡ afterRead (many P count [] s from)
-      reading-bad e g q m = ap after.Fault m ∙ ap afterRead (sym (going-bad P s count from i at earlier (r .going) h (movedFault at e) (there-bad earlier at (r .within) e q .0)))
+      pub reading-bad : (K : List A → Type 0) (e g : Fault) → P earlier (rest s at) 0 ≡ bad e → g ≡ movedFault at e → Besides afterRead K (after.Fault g) (many P count [] s from)
+      reading-bad K e g q m =
+          ill afterRead K (after.Fault g) (many P count [] s from) (after-apart g)
+          (ap after.Fault m ∙ ap afterRead (sym (going-bad P s count from i at earlier (r .going) h (movedFault at e) (there-bad earlier at (r .within) e q .0))))
 
-    pub reading-end : count ≤ i → after.At at ≡ afterRead (many P count [] s from)
-    reading-end h = ap afterRead (sym (going-end P s count from i at earlier (r .going) h))
+    pub reading-end : (K : List A → Type 0) → K earlier → count ≤ i → Besides afterRead K (after.At at) (many P count [] s from)
+    reading-end K k h =
+        let e = going-end P s count from i at earlier (r .going) h in
+        well afterRead K (after.At at) (many P count [] s from) earlier at e k (ap afterRead (sym e))

@@ -20,6 +20,8 @@ use Rattle.records.proofs.FieldsLaws.{field-got, field-told, field-within}
 use Rattle.records.proofs.FieldsForm.{number-walks, field-walks}
 use Rattle.records.proofs.ManyLaws.{many-length}
 use Rattle.records.proofs.ManyForm.{many-walks}
+use Rattle.table.proofs.LoadingLaws.{Besides, ill, well}
+use Rattle.table.specs.Kept.{IfGood}
 use Rattle.table.specs.Sections.{version, Part, section, allOf, sectionOf, sectionRead, sectionFault, afterRead, afterFault}
 use Rattle.table.specs.declared.loading.Section.{Section}
 use Rattle.table.specs.declared.loading.SectionRead.{SectionRead}
@@ -82,26 +84,35 @@ module _ (s : List ℕ) (from most : ℕ) (r : Field) (n first : ℕ) (found : r
   count-within h = field-walks 0 most .ends n s from first h (field-got (field 0 most s from) r n first found e) .1
 
 -- ---- a section
-module _ {A : Type 0} (most : ℕ) (P : List A → Reader A) (s : List ℕ) (from : ℕ) (r : Field) (found : r ≡ fieldRead (field 0 most s from)) where
-  pub section-fails : (g f : Fault) → r ≡ asField.Fault g → f ≡ fieldFault r → asSection.Fault f ≡ sectionRead (section most P s from)
+pub section-apart : {A : Type 0} (f : Fault) (l : Part A) (at : ℕ) → asSection.Fault f ≡ sectionRead (got l at) → ⊥
+section-apart f l at e = let z : _≡_ {A = ℕ} 0 1 = cc in absurd (omega arith)
+
+module _ {A : Type 0} (most : ℕ) (P : List A → Reader A) (s : List ℕ) (from : ℕ) (r : Field) (found : r ≡ fieldRead (field 0 most s from)) (K : Part A → Type 0) where
+  failed : (f : Fault) → section most P s from ≡ bad f → Besides sectionRead K (asSection.Fault f) (section most P s from)
+  failed f e = ill sectionRead K (asSection.Fault f) (section most P s from) (section-apart f) (ap sectionRead (sym e))
+
+  pub section-fails : (g f : Fault) → r ≡ asField.Fault g → f ≡ fieldFault r → Besides sectionRead K (asSection.Fault f) (section most P s from)
   unfolding section
-  section-fails g f e q = ap sectionRead (sym (bad-first (field 0 most s from) _ (field-told (field 0 most s from) r g f found e q)))
+  section-fails g f e q = failed f (bad-first (field 0 most s from) _ (field-told (field 0 most s from) r g f found e q))
 
   module _ (n first : ℕ) (e : r ≡ asField.Value n first) where
     module _ (a : After) (all : a ≡ afterRead (many P n [] s first)) where
-      pub records-fail : (g f : Fault) → a ≡ after.Fault g → f ≡ afterFault a → asSection.Fault f ≡ sectionRead (section most P s from)
+      pub records-fail : (g f : Fault) → a ≡ after.Fault g → f ≡ afterFault a → Besides sectionRead K (asSection.Fault f) (section most P s from)
       unfolding section
       records-fail g f q t =
-          ap sectionRead (sym (got-then (field 0 most s from) _ (field-got (field 0 most s from) r n first found e) ∙ bad-first (many P n [] s first) _ (after-told (many P n [] s first) a g f all q t)))
+          failed f (got-then (field 0 most s from) _ (field-got (field 0 most s from) r n first found e) ∙ bad-first (many P n [] s first) _ (after-told (many P n [] s first) a g f all q t))
 
-      pub section-found : (at : ℕ) → a ≡ after.At at → asSection.Section (record { count = n; first = first }) at ≡ sectionRead (section most P s from)
+      pub section-found : (at : ℕ) → a ≡ after.At at → IfGood (many P n [] s first) (λ (l : List A). K (record { records = l; first = first }))
+          → Besides sectionRead K (asSection.Section (record { count = n; first = first }) at) (section most P s from)
       unfolding section
-      section-found at q = done (after-got (many P n [] s first) a at all q)
+      section-found at q keeps = done (after-got (many P n [] s first) a at all q)
         where
-          done : (l : List A) × (many P n [] s first ≡ got l at) → asSection.Section (record { count = n; first = first }) at ≡ sectionRead (section most P s from)
+          done : (l : List A) × (many P n [] s first ≡ got l at) → Besides sectionRead K (asSection.Section (record { count = n; first = first }) at) (section most P s from)
           done (l, w) =
-              ap (λ (c : ℕ). asSection.Section (record { count = c; first = first }) at) (sym (many-length P n [] l s first at w))
-              ∙ ap sectionRead (sym (got-then (field 0 most s from) _ (field-got (field 0 most s from) r n first found e) ∙ got-then (many P n [] s first) _ w))
+              let x : Part A = record { records = l; first = first } in
+              let g : section most P s from ≡ got x at = got-then (field 0 most s from) _ (field-got (field 0 most s from) r n first found e) ∙ got-then (many P n [] s first) _ w in
+              well sectionRead K (asSection.Section (record { count = n; first = first }) at) (section most P s from) x at g (keeps l at w)
+              (ap (λ (c : ℕ). asSection.Section (record { count = c; first = first }) at) (sym (many-length P n [] l s first at w)) ∙ ap sectionRead (sym g))
 
 -- Where the bytes of a section end; and its count is in its range.
 pub section-within : {A : Type 0} (most : ℕ) (P : List A → Reader A) → ((earlier : List A) → Walks (P earlier)) → (s : List ℕ) (from : ℕ) (r : SectionRead) (x : Section) (at : ℕ) → from ≤ length s

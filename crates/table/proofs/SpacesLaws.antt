@@ -23,11 +23,11 @@ use Rattle.records.proofs.FieldsLaws.{key-got, key-told}
 use Rattle.records.proofs.ManyLaws.{Going, going-start, going-on, going-bad, going-end}
 use Rattle.table.specs.Sections.{afterRead}
 use Rattle.table.specs.ReadTable.{spaceKey, numbers}
+use Rattle.table.specs.declared.loading.After.{After}
 use Rattle.table.specs.declared.loading.After.the-variants as after
-use Rattle.table.proofs.KeptLaws.{Kept, kept-none, kept-more}
-
-abbrev pub numberOf : Key → ℕ
-numberOf k = k .0
+use Rattle.table.specs.Kept.{Kept, numberOf}
+use Rattle.table.proofs.LoadingLaws.{Besides, ill, well, after-apart}
+use Rattle.table.proofs.KeptLaws.{kept-none, kept-more}
 
 pub spaces-walk : (earlier : List Key) → Walks (spaceKey earlier)
 spaces-walk earlier = refused-walks kind.Twice (λ k. isAmong (numbers earlier) (k .0)) keyField key-walks
@@ -50,13 +50,21 @@ module _ (s : List ℕ) where
   }
 
   module _ (count from room : ℕ) (keys : List ℕ) (at i : ℕ) (l : Spaced count from room keys at i) where
-    pub spaced-end : count ≤ i → after.At at ≡ afterRead (many spaceKey count [] s from)
-    spaced-end h = ap afterRead (sym (going-end spaceKey s count from i at (l .earlier) (l .going) h))
+    -- What is answered, with what the keys hold if all is well.
+    abbrev pub Spaces : After → Type 0
+    Spaces r = Besides afterRead (λ (e : List Key). Kept numberOf keys e) r (many spaceKey count [] s from)
+
+    failed : (f : Fault) → many spaceKey count [] s from ≡ bad f → Spaces (after.Fault f)
+    failed f e = ill afterRead (λ (e : List Key). Kept numberOf keys e) (after.Fault f) (many spaceKey count [] s from) (after-apart f) (ap afterRead (sym e))
+
+    pub spaced-end : count ≤ i → Spaces (after.At at)
+    spaced-end h =
+        let e = going-end spaceKey s count from i at (l .earlier) (l .going) h in
+        well afterRead (λ (e : List Key). Kept numberOf keys e) (after.At at) (many spaceKey count [] s from) (l .earlier) at e (l .kept) (ap afterRead (sym e))
 
     module _ (few : count ≤ room) (h : i < count) (r : KeyRead) (found : r ≡ keyRead (keyField s at)) where
-      pub spaced-fails : (g f : Fault) → r ≡ asKey.Fault g → f ≡ keyFault r → after.Fault f ≡ afterRead (many spaceKey count [] s from)
-      spaced-fails g f e q =
-          ap afterRead (sym (going-bad spaceKey s count from i at (l .earlier) (l .going) h f (bad-first (keyField s at) _ (key-told (keyField s at) r g f found e q))))
+      pub spaced-fails : (g f : Fault) → r ≡ asKey.Fault g → f ≡ keyFault r → Spaces (after.Fault f)
+      spaced-fails g f e q = failed f (going-bad spaceKey s count from i at (l .earlier) (l .going) h f (bad-first (keyField s at) _ (key-told (keyField s at) r g f found e q)))
 
       module _ (k : Key) (next : ℕ) (e : r ≡ asKey.Key k next) where
         -- The next key, as it is read, given whether an earlier space has it.
@@ -66,9 +74,8 @@ module _ (s : List ℕ) where
             ∙ ap (λ (c : Bool). pick c (bad (faultAt kind.Twice at)) (got k next))
             (sym (q ∙ ap (λ (n : ℕ). isAmong (take n keys) (k .0)) (sym (l .going .read)) ∙ ap (λ (m : List ℕ). isAmong m (k .0)) (l .kept .same)))
 
-        pub spaced-twice : (b : Bool) (f : Fault) → b ≡ isAmong (take i keys) (k .0) → b ≡ true → f ≡ faultAt kind.Twice at → after.Fault f ≡ afterRead (many spaceKey count [] s from)
-        spaced-twice b f q t g =
-            ap after.Fault g ∙ ap afterRead (sym (going-bad spaceKey s count from i at (l .earlier) (l .going) h (faultAt kind.Twice at) (key-next true (sym t ∙ q))))
+        pub spaced-twice : (b : Bool) (f : Fault) → b ≡ isAmong (take i keys) (k .0) → b ≡ true → f ≡ faultAt kind.Twice at → Spaces (after.Fault f)
+        spaced-twice b f q t g = failed f (going-bad spaceKey s count from i at (l .earlier) (l .going) h (faultAt kind.Twice at) (key-next true (sym t ∙ q)) ∙ ap bad (sym g))
 
         pub spaced-on : (b : Bool) → b ≡ isAmong (take i keys) (k .0) → b ≡ false → Spaced count from room (set keys i (k .0)) next (i + 1)
         spaced-on b q t =

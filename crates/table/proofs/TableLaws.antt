@@ -1,7 +1,8 @@
 -- A whole table, from its version and its four sections.
-use mathlib.Core.Path.{_≡_, sym, _∙_, ap}
+use mathlib.Core.Path.{_≡_, sym, _∙_, ap, subst}
 use mathlib.Core.List.{List}
 use Prim.Native.Nat.{ℕ, _<_, _≤_}
+use native.Mathlib.Omega.{arith}
 use lib.ListN.{length}
 use Rattle.rules.specs.Ranges.{mostSpaces, mostBindings, mostAccesses, mostDelegations}
 use Rattle.rules.specs.Tables.{Binding, AccessRecord, Delegation}
@@ -22,7 +23,10 @@ use Rattle.table.specs.ReadTable.{mostTable, spaceKey, Laid, tableFields
 use Rattle.table.specs.declared.loading.Section.{Section}
 use Rattle.table.specs.declared.loading.SectionRead.{SectionRead}
 use Rattle.table.specs.declared.loading.SectionRead.the-variants as asSection
+use Rattle.table.specs.Kept.{IfGood, Kept, Standing, numberOf, nameOf, unbound, Indexed}
+use Rattle.table.specs.declared.Loaded.{Loaded}
 use Rattle.table.specs.declared.Loaded.the-variants as loaded
+use Rattle.table.proofs.LoadingLaws.{Besides, ill, well}
 use Rattle.table.proofs.SectionsLaws.{section-got, section-told, all-long, all-bad, all-got, all-more}
 
 -- The next binding behind these, and so on.
@@ -35,18 +39,28 @@ accessesOf spaces earlier = accessRecord spaces
 abbrev pub delegationsOf : ℕ → List Delegation → Reader Delegation
 delegationsOf spaces earlier = delegationRecord spaces
 
-module _ (s : List ℕ) where
-  pub table-long : (e : Fault) → mostTable < length s → e ≡ faultAt kind.Long 0 → loaded.Bad e ≡ loadedOf (readTable s)
+loaded-apart : (f : Fault) (l : Laid) (at : ℕ) → loaded.Bad f ≡ loadedOf (got l at) → ⊥
+loaded-apart f l at e = let z : _≡_ {A = ℕ} 0 1 = cc in absurd (omega arith)
+
+module _ (s keys names places : List ℕ) where
+  -- What is answered, with what is kept if all is well.
+  abbrev pub Loads : Loaded → Type 0
+  Loads r = Besides loadedOf (λ (l : Laid). Indexed s l keys names places) r (readTable s)
+
+  failed : (e : Fault) → readTable s ≡ bad e → Loads (loaded.Bad e)
+  failed e q = ill loadedOf (λ (l : Laid). Indexed s l keys names places) (loaded.Bad e) (readTable s) (loaded-apart e) (ap loadedOf (sym q))
+
+  pub table-long : (e : Fault) → mostTable < length s → e ≡ faultAt kind.Long 0 → Loads (loaded.Bad e)
   unfolding readTable
-  table-long e h q = ap loaded.Bad q ∙ ap loadedOf (sym (all-long tableFields mostTable s h))
+  table-long e h q = failed e (all-long tableFields mostTable s h ∙ ap bad (sym q))
 
   module _ (h : length s ≤ mostTable) where
-    is-bad : (e : Fault) → tableFields s 0 ≡ bad e → loaded.Bad e ≡ loadedOf (readTable s)
+    is-bad : (e : Fault) → tableFields s 0 ≡ bad e → Loads (loaded.Bad e)
     unfolding readTable
-    is-bad e q = ap loadedOf (sym (all-bad tableFields mostTable s h e q))
+    is-bad e q = failed e (all-bad tableFields mostTable s h e q)
 
     module _ (r₀ : Field) (found₀ : r₀ ≡ fieldRead (version 1 s 0)) where
-      pub version-bad : (g f : Fault) → r₀ ≡ asField.Fault g → f ≡ fieldFault r₀ → loaded.Bad f ≡ loadedOf (readTable s)
+      pub version-bad : (g f : Fault) → r₀ ≡ asField.Fault g → f ≡ fieldFault r₀ → Loads (loaded.Bad f)
       unfolding tableFields
       version-bad g f e q = is-bad f (bad-first (version 1 s 0) _ (field-told (version 1 s 0) r₀ g f found₀ e q))
 
@@ -54,7 +68,7 @@ module _ (s : List ℕ) where
         zero-th : version 1 s 0 ≡ got v a
         zero-th = field-got (version 1 s 0) r₀ v a found₀ e₀
 
-        pub spaces-bad : (g f : Fault) → r₁ ≡ asSection.Fault g → f ≡ sectionFault r₁ → loaded.Bad f ≡ loadedOf (readTable s)
+        pub spaces-bad : (g f : Fault) → r₁ ≡ asSection.Fault g → f ≡ sectionFault r₁ → Loads (loaded.Bad f)
         unfolding tableFields
         spaces-bad g f e q =
             is-bad f (got-then (version 1 s 0) _ zero-th ∙ bad-first (section mostSpaces spaceKey s a) _ (section-told (section mostSpaces spaceKey s a) r₁ g f found₁ e q))
@@ -69,6 +83,10 @@ module _ (s : List ℕ) where
           counted : x₁ .count ≡ spaces
           unfolding spaces
           counted = ap (λ (x : Section). x .count) (sym (first .2))
+
+          -- What names and places hold, if the bindings are well.
+          abbrev pub BindingsKept : ℕ → Type 0
+          BindingsKept n = IfGood (section mostBindings (bindingsOf n) s b) (λ (l : Part Binding). Kept nameOf names (l .records) × Standing (bindingRecord n unbound) s places (l .records))
 
           known₂ : r₂ ≡ sectionRead (section mostBindings (bindingsOf spaces) s b)
           known₂ = found₂ ∙ ap (λ (n : ℕ). sectionRead (section mostBindings (bindingsOf n) s b)) counted
@@ -85,7 +103,7 @@ module _ (s : List ℕ) where
           unfolding tableFields onBindings spaces
           to-bindings = got-then (version 1 s 0) _ zero-th ∙ got-then (section mostSpaces spaceKey s a) _ (first .1)
 
-          pub bindings-bad : (g f : Fault) → r₂ ≡ asSection.Fault g → f ≡ sectionFault r₂ → loaded.Bad f ≡ loadedOf (readTable s)
+          pub bindings-bad : (g f : Fault) → r₂ ≡ asSection.Fault g → f ≡ sectionFault r₂ → Loads (loaded.Bad f)
           unfolding onBindings
           bindings-bad g f e q = is-bad f (to-bindings ∙ bad-first (section mostBindings (bindingsOf spaces) s b) _ (section-told (section mostBindings (bindingsOf spaces) s b) r₂ g f known₂ e q))
 
@@ -96,7 +114,7 @@ module _ (s : List ℕ) where
             known₃ : r₃ ≡ sectionRead (section mostAccesses (accessesOf spaces) s c)
             known₃ = found₃ ∙ ap (λ (n : ℕ). sectionRead (section mostAccesses (accessesOf n) s c)) counted
 
-            pub accesses-bad : (g f : Fault) → r₃ ≡ asSection.Fault g → f ≡ sectionFault r₃ → loaded.Bad f ≡ loadedOf (readTable s)
+            pub accesses-bad : (g f : Fault) → r₃ ≡ asSection.Fault g → f ≡ sectionFault r₃ → Loads (loaded.Bad f)
             unfolding onBindings
             accesses-bad g f e q =
                 is-bad f (to-bindings ∙ got-then (section mostBindings (bindingsOf spaces) s b) _ (second .1)
@@ -109,7 +127,7 @@ module _ (s : List ℕ) where
               known₄ : r₄ ≡ sectionRead (section mostDelegations (delegationsOf spaces) s d)
               known₄ = found₄ ∙ ap (λ (n : ℕ). sectionRead (section mostDelegations (delegationsOf n) s d)) counted
 
-              pub delegations-bad : (g f : Fault) → r₄ ≡ asSection.Fault g → f ≡ sectionFault r₄ → loaded.Bad f ≡ loadedOf (readTable s)
+              pub delegations-bad : (g f : Fault) → r₄ ≡ asSection.Fault g → f ≡ sectionFault r₄ → Loads (loaded.Bad f)
               unfolding onBindings
               delegations-bad g f e q =
                   is-bad f (to-bindings ∙ got-then (section mostBindings (bindingsOf spaces) s b) _ (second .1) ∙ got-then (section mostAccesses (accessesOf spaces) s c) _ (third .1)
@@ -128,12 +146,16 @@ module _ (s : List ℕ) where
                     to-bindings ∙ got-then (section mostBindings (bindingsOf spaces) s b) _ (second .1) ∙ got-then (section mostAccesses (accessesOf spaces) s c) _ (third .1)
                     ∙ got-then (section mostDelegations (delegationsOf spaces) s d) _ (fourth .1)
 
-                pub table-more : (f : Fault) → (end ≡ length s → ⊥) → f ≡ faultAt kind.Extra end → loaded.Bad f ≡ loadedOf (readTable s)
+                pub table-more : (f : Fault) → (end ≡ length s → ⊥) → f ≡ faultAt kind.Extra end → Loads (loaded.Bad f)
                 unfolding readTable
-                table-more f n q = ap loaded.Bad q ∙ ap loadedOf (sym (all-more tableFields mostTable s h laid end all-read n))
+                table-more f n q = failed f (all-more tableFields mostTable s h laid end all-read n ∙ ap bad (sym q))
 
-                pub table-found : end ≡ length s → loaded.Good (record { spaces = x₁; bindings = x₂; accesses = x₃; delegations = x₄ }) ≡ loadedOf (readTable s)
-                unfolding readTable laid
-                table-found n =
-                    rw (sym (first .2), sym (second .2), sym (third .2), sym (fourth .2))
-                    (ap loadedOf (sym (all-got tableFields mostTable s h laid end all-read n)))
+                pub table-found : IfGood (section mostSpaces spaceKey s a) (λ (l : Part Key). Kept numberOf keys (l .records)) → BindingsKept (x₁ .count) → end ≡ length s
+                    → Loads (loaded.Good (record { spaces = x₁; bindings = x₂; accesses = x₃; delegations = x₄ }))
+                unfolding readTable laid spaces
+                table-found k₁ k₂ n =
+                    let g = all-got tableFields mostTable s h laid end all-read n in
+                    let w = subst BindingsKept counted k₂ (second .0) c (second .1) in
+                    well loadedOf (λ (l : Laid). Indexed s l keys names places) (loaded.Good (record { spaces = x₁; bindings = x₂; accesses = x₃; delegations = x₄ })) (readTable s) laid end g
+                    (record { spaces = k₁ (first .0) b (first .1); bindings = w .0; standing = w .1 })
+                    (rw (sym (first .2), sym (second .2), sym (third .2), sym (fourth .2)) (ap loadedOf (sym g)))

@@ -1,4 +1,5 @@
 pub mod Sections
 pub mod ReadTable
 pub mod ReadKeyTable
+pub mod Kept
 pub mod Finding

@@ -1,6 +1,10 @@
 // Whole tables: every fault in its order, where the sections begin, and finding a space by its key and a binding by its name.
 ghost use mathlib.Core.Path.{_≡_};
+ghost use Prim.Native.Nat.{_≤_};
+ghost use lib.ListN.{length};
+ghost use Rattle.rules.specs.Ranges.{mostSpaces, mostBindings};
 ghost use Rattle.table.specs.ReadTable.{readTable, loadedOf};
+ghost use Rattle.table.specs.Kept.{IfGood, Indexed};
 use crate::loading::Section;
 use crate::loading::SectionRead;
 use crate::loading::load_accesses;
@@ -37,6 +41,18 @@ pub enum Loaded {
 pub fn load(table: &[u8]) -> Loaded
     ensures { λ r. ⌜ r ≡ loadedOf (readTable (now (table .entry))) ⌝ }
 {
+    let mut keys = [0; 64];
+    let mut names = [0; 256];
+    let mut places = [0; 256];
+    load_index(table, &mut keys, &mut names, &mut places)
+}
+
+// Reads the table whole, and keeps the keys of its spaces, and of its bindings the names and where they stand.
+pub fn load_index(table: &[u8], keys: &mut [u32], names: &mut [u32], places: &mut [u16]) -> Loaded
+    requires { ⌜ (mostSpaces ≤ length (now keys)) × (mostBindings ≤ length (now names)) × (mostBindings ≤ length (now places)) ⌝ }
+    ensures read { λ r. ⌜ r ≡ loadedOf (readTable (now (table .entry))) ⌝ }
+    ensures kept { λ r. ⌜ IfGood (readTable (now (table .entry))) (λ l. Indexed (now (table .entry)) l (now (keys .exit)) (now (names .exit)) (now (places .exit))) ⌝ }
+{
     if MOST_TABLE < table.len() {
         return Loaded::Bad(fault_at(Kind::Long, 0));
     }
@@ -44,11 +60,11 @@ pub fn load(table: &[u8]) -> Loaded
     let Field::Value(_, at1) = version else {
         return Loaded::Bad(field_fault(version));
     };
-    let first = load_spaces(table, at1);
+    let first = load_spaces(table, at1, keys);
     let SectionRead::Section(spaces, at2) = first else {
         return Loaded::Bad(section_fault(first));
     };
-    let second = load_bindings(table, at2, spaces.count);
+    let second = load_bindings(table, at2, spaces.count, names, places);
     let SectionRead::Section(bindings, at3) = second else {
         return Loaded::Bad(section_fault(second));
     };

@@ -10,7 +10,8 @@ ghost use Rattle.records.specs.Bindings.{bindingRecord, isBound};
 ghost use Rattle.records.specs.Accesses.{accessRecord};
 ghost use Rattle.records.specs.Delegations.{delegationRecord};
 ghost use Rattle.table.specs.Sections.{version, section, sectionRead, sectionFault, afterRead, afterFault};
-ghost use Rattle.table.specs.ReadTable.{spaceKey};
+ghost use Rattle.table.specs.ReadTable.{mostTable, spaceKey};
+ghost use Rattle.table.specs.Kept.{IfGood, Kept, Standing, numberOf, nameOf, unbound};
 use records::accesses::AccessRead;
 use records::accesses::read_access;
 use records::bindings::BindingRead;
@@ -74,7 +75,8 @@ pub fn read_version(table: &[u8], wanted: u32) -> Field
 // So many spaces from a place on; their keys are kept in `keys`.
 fn read_spaces(table: &[u8], from: usize, count: usize, keys: &mut [u32]) -> After
     requires { ⌜ count ≤ length (now keys) ⌝ }
-    ensures { λ r. ⌜ r ≡ afterRead (many spaceKey count [] (now (table .entry)) from) ⌝ }
+    ensures read { λ r. ⌜ r ≡ afterRead (many spaceKey count [] (now (table .entry)) from) ⌝ }
+    ensures kept { λ r. ⌜ IfGood (many spaceKey count [] (now (table .entry)) from) (λ l. Kept numberOf (now (keys .exit)) l) ⌝ }
 {
     let mut at = from;
     let mut i = 0;
@@ -93,10 +95,19 @@ fn read_spaces(table: &[u8], from: usize, count: usize, keys: &mut [u32]) -> Aft
     After::At(at)
 }
 
-// So many bindings from a place on; the names that they bind are kept in `names`, packed.
-fn read_bindings(table: &[u8], from: usize, count: usize, spaces: usize, names: &mut [u32]) -> After
-    requires { ⌜ (count ≤ length (now names)) × (spaces ≤ mostSpaces) × (from ≤ length (now table)) ⌝ }
-    ensures { λ r. ⌜ r ≡ afterRead (many (λ earlier. bindingRecord spaces (isBound earlier)) count [] (now (table .entry)) from) ⌝ }
+// So many bindings from a place on; the names that they bind are kept in `names`, packed, and where they stand in `places`.
+fn read_bindings(
+    table: &[u8],
+    from: usize,
+    count: usize,
+    spaces: usize,
+    names: &mut [u32],
+    places: &mut [u16],
+) -> After
+    requires { ⌜ (count ≤ length (now names)) × (count ≤ length (now places)) × (spaces ≤ mostSpaces) × (from ≤ length (now table)) × (length (now table) ≤ mostTable) ⌝ }
+    ensures read { λ r. ⌜ r ≡ afterRead (many (λ earlier. bindingRecord spaces (isBound earlier)) count [] (now (table .entry)) from) ⌝ }
+    ensures kept { λ r. ⌜ IfGood (many (λ earlier. bindingRecord spaces (isBound earlier)) count [] (now (table .entry)) from)
+        (λ l. Kept nameOf (now (names .exit)) l × Standing (bindingRecord spaces unbound) (now (table .entry)) (now (places .exit)) l) ⌝ }
 {
     let mut at = from;
     let mut i = 0;
@@ -104,6 +115,7 @@ fn read_bindings(table: &[u8], from: usize, count: usize, spaces: usize, names: 
         match read_binding(&table[at..], spaces, &names[..i]) {
             BindingRead::Binding(binding, taken) => {
                 names[i] = pack(binding.space, binding.base);
+                places[i] = at as u16;
                 at = at + taken;
                 i = i + 1;
             }
@@ -157,35 +169,43 @@ fn read_delegations(table: &[u8], from: usize, count: usize, spaces: usize) -> A
     After::At(at)
 }
 
-// The section of the spaces.
-pub fn load_spaces(table: &[u8], from: usize) -> SectionRead
-    ensures { λ r. ⌜ r ≡ sectionRead (section mostSpaces spaceKey (now (table .entry)) from) ⌝ }
+// The section of the spaces; their keys are kept in `keys`.
+pub fn load_spaces(table: &[u8], from: usize, keys: &mut [u32]) -> SectionRead
+    requires { ⌜ mostSpaces ≤ length (now keys) ⌝ }
+    ensures read { λ r. ⌜ r ≡ sectionRead (section mostSpaces spaceKey (now (table .entry)) from) ⌝ }
+    ensures kept { λ r. ⌜ IfGood (section mostSpaces spaceKey (now (table .entry)) from) (λ l. Kept numberOf (now (keys .exit)) (l .records)) ⌝ }
 {
     let header = read_field(table, from, 0, MOST_SPACES);
     let Field::Value(number, first) = header else {
         return SectionRead::Fault(field_fault(header));
     };
     let count = number as usize;
-    let mut keys = [0; 64];
-    let rest = read_spaces(table, first, count, &mut keys);
+    let rest = read_spaces(table, first, count, keys);
     let After::At(at) = rest else {
         return SectionRead::Fault(after_fault(rest));
     };
     SectionRead::Section(Section { count, first }, at)
 }
 
-// The section of the bindings.
-pub fn load_bindings(table: &[u8], from: usize, spaces: usize) -> SectionRead
-    requires { ⌜ (spaces ≤ mostSpaces) × (from ≤ length (now table)) ⌝ }
-    ensures { λ r. ⌜ r ≡ sectionRead (section mostBindings (λ earlier. bindingRecord spaces (isBound earlier)) (now (table .entry)) from) ⌝ }
+// The section of the bindings; the names that they bind are kept in `names`, packed, and where they stand in `places`.
+pub fn load_bindings(
+    table: &[u8],
+    from: usize,
+    spaces: usize,
+    names: &mut [u32],
+    places: &mut [u16],
+) -> SectionRead
+    requires { ⌜ (mostBindings ≤ length (now names)) × (mostBindings ≤ length (now places)) × (spaces ≤ mostSpaces) × (from ≤ length (now table)) × (length (now table) ≤ mostTable) ⌝ }
+    ensures read { λ r. ⌜ r ≡ sectionRead (section mostBindings (λ earlier. bindingRecord spaces (isBound earlier)) (now (table .entry)) from) ⌝ }
+    ensures kept { λ r. ⌜ IfGood (section mostBindings (λ earlier. bindingRecord spaces (isBound earlier)) (now (table .entry)) from)
+        (λ l. Kept nameOf (now (names .exit)) (l .records) × Standing (bindingRecord spaces unbound) (now (table .entry)) (now (places .exit)) (l .records)) ⌝ }
 {
     let header = read_field(table, from, 0, MOST_BINDINGS);
     let Field::Value(number, first) = header else {
         return SectionRead::Fault(field_fault(header));
     };
     let count = number as usize;
-    let mut names = [0; 256];
-    let rest = read_bindings(table, first, count, spaces, &mut names);
+    let rest = read_bindings(table, first, count, spaces, names, places);
     let After::At(at) = rest else {
         return SectionRead::Fault(after_fault(rest));
     };

@@ -17,7 +17,7 @@ field-fault-requires : tie.Need-field-fault-requires
 field-fault-requires c κs = search needs
 
 returns : tie.Need-returns
-returns c = section-fails _ _ _ _ _ (c .before .before .before .read-field .ensures) _ _ (c .before .enum-told .given .1) (c .field-fault .ensures)
+returns c = section-fails _ _ _ _ _ (c .before .before .before .read-field .ensures) (λ x. Unit {0}) _ _ (c .before .enum-told .given .1) (c .field-fault .ensures) .0
 
 cast-count : tie.Need-cast-count
 cast-count c = search needs
@@ -35,10 +35,10 @@ after-fault-requires : tie.Need-after-fault-requires
 after-fault-requires c κs = search needs
 
 returns-2 : tie.Need-returns-2
-returns-2 c = records-fail _ _ _ _ _ (c .before .before .before .before .before .before .before .read-field .ensures) _ _ (c .before .before .before .before .before .header .given .1) _ (c .before .before .before .read-accesses .ensures) _ _ (c .before .enum-told2 .given .1) (c .after-fault .ensures)
+returns-2 c = records-fail _ _ _ _ _ (c .before .before .before .before .before .before .before .read-field .ensures) (λ x. Unit {0}) _ _ (c .before .before .before .before .before .header .given .1) _ (c .before .before .before .read-accesses .ensures) _ _ (c .before .enum-told2 .given .1) (c .after-fault .ensures) .0
 
 returns-3 : tie.Need-returns-3
-returns-3 c = section-found _ _ _ _ _ (c .before .before .before .before .before .before .before .read-field .ensures) _ _ (c .before .before .before .before .before .header .given .1) _ (c .before .before .before .read-accesses .ensures) _ (c .before .rest .given .1)
+returns-3 c = section-found _ _ _ _ _ (c .before .before .before .before .before .before .before .read-field .ensures) (λ x. Unit {0}) _ _ (c .before .before .before .before .before .header .given .1) _ (c .before .before .before .read-accesses .ensures) _ (c .before .rest .given .1) (λ l end e. tt) .0
 
 pub load-accesses-spec : {M : Type 1} → statement M
 load-accesses-spec =

@@ -1,4 +1,5 @@
 -- `load_spaces` judges the count, then reads so many keys.
+use native.Mathlib.Omega.{arith}
 use Rattle.table.proofs.SectionsLaws.{count-few, section-fails, records-fail, section-found}
 use borrow.Author.Needs.{needs}
 use Rattle.table.proofs.loading.load_spaces.Statement.{statement}
@@ -17,16 +18,13 @@ field-fault-requires : tie.Need-field-fault-requires
 field-fault-requires c κs = search needs
 
 returns : tie.Need-returns
-returns c = section-fails _ _ _ _ _ (c .before .before .before .read-field .ensures) _ _ (c .before .enum-told .given .1) (c .field-fault .ensures)
+returns c = section-fails _ _ _ _ _ (c .before .before .before .read-field .ensures) _ _ _ (c .before .enum-told .given .1) (c .field-fault .ensures)
 
 cast-count : tie.Need-cast-count
 cast-count c = search needs
 
-slice-aggregate-read-spaces : tie.Need-slice-aggregate-read-spaces
-slice-aggregate-read-spaces c = search needs
-
 read-spaces-requires : tie.Need-read-spaces-requires
-read-spaces-requires c κs = count-few _ _ _ _ _ _ (c .before .before .before .before .read-field .ensures) (c .before .before .header .given .1)
+read-spaces-requires c κs = omega (arith, c .before .before .before .before .before .before .before .pre, count-few _ _ _ _ _ _ (c .before .before .before .before .read-field .ensures) (c .before .before .header .given .1))
 
 enum-known-rest : tie.Need-enum-known-rest
 enum-known-rest c = search needs
@@ -37,11 +35,17 @@ enum-told-2 c = search needs
 after-fault-requires : tie.Need-after-fault-requires
 after-fault-requires c κs = search needs
 
+same-length : tie.Need-same-length
+same-length c = search needs
+
 returns-2 : tie.Need-returns-2
-returns-2 c = records-fail _ _ _ _ _ (c .before .before .before .before .before .before .before .before .before .read-field .ensures) _ _ (c .before .before .before .before .before .before .before .header .given .1) _ (c .before .before .before .before .read-spaces .ensures) _ _ (c .before .enum-told2 .given .1) (c .after-fault .ensures)
+returns-2 c = records-fail _ _ _ _ _ (c .before .before .before .before .before .before .before .before .before .before .read-field .ensures) _ _ _ (c .before .before .before .before .before .before .before .before .header .given .1) _ (c .before .before .before .before .before .read-spaces .ensures .0) _ _ (c .before .enum-told2 .given .1) (c .after-fault .ensures)
+
+same-length-2 : tie.Need-same-length-2
+same-length-2 c = search needs
 
 returns-3 : tie.Need-returns-3
-returns-3 c = section-found _ _ _ _ _ (c .before .before .before .before .before .before .before .before .before .read-field .ensures) _ _ (c .before .before .before .before .before .before .before .header .given .1) _ (c .before .before .before .before .read-spaces .ensures) _ (c .before .rest .given .1)
+returns-3 c = section-found _ _ _ _ _ (c .before .before .before .before .before .before .before .before .before .before .read-field .ensures) _ _ _ (c .before .before .before .before .before .before .before .before .header .given .1) _ (c .before .before .before .before .before .read-spaces .ensures .0) _ (c .before .rest .given .1) (c .before .before .before .before .before .read-spaces .ensures .1)
 
 pub load-spaces-spec : {M : Type 1} → statement M
 load-spaces-spec =
@@ -53,10 +57,11 @@ load-spaces-spec =
     field-fault-requires
     returns
     cast-count
-    slice-aggregate-read-spaces
     read-spaces-requires
     enum-known-rest
     enum-told-2
     after-fault-requires
+    same-length
     returns-2
+    same-length-2
     returns-3)

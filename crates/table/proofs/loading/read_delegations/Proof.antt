@@ -54,10 +54,10 @@ moved-requires : tie.Need-moved-requires Inv-loop μ-loop
 moved-requires c κs = omega (arith, fault-fits _ _ _ _ _ _ _ _ (c .before .before .before .before .before .before .loop .inv .1) _ (delegation-bad _ _ _ (c .before .before .before .read-delegation .ensures) (c .before .fault .given .1)))
 
 returns : tie.Need-returns Inv-loop μ-loop
-returns c = reading-bad _ _ _ _ _ _ _ _ (c .before .before .before .before .before .before .before .loop .inv .1) (c .before .before .before .before .before .before .loop-test .taken) _ _ (delegation-bad _ _ _ (c .before .before .before .before .read-delegation .ensures) (c .before .before .fault .given .1)) (c .moved .ensures)
+returns c = reading-bad _ _ _ _ _ _ _ _ (c .before .before .before .before .before .before .before .loop .inv .1) (c .before .before .before .before .before .before .loop-test .taken) (λ l. Unit {0}) _ _ (delegation-bad _ _ _ (c .before .before .before .before .read-delegation .ensures) (c .before .before .fault .given .1)) (c .moved .ensures) .0
 
 returns-2 : tie.Need-returns-2 Inv-loop μ-loop
-returns-2 c = reading-end _ _ _ _ _ _ _ _ (c .before .loop .inv .1) (c .loop-test .left)
+returns-2 c = reading-end _ _ _ _ _ _ _ _ (c .before .loop .inv .1) (λ l. Unit {0}) tt (c .loop-test .left) .0
 
 pub read-delegations-spec : {M : Type 1} → statement M
 read-delegations-spec =

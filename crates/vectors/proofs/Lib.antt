@@ -1,0 +1,3 @@
+-- Laws of answer lines.
+pub mod LinesLaws
+pub mod PartsLaws

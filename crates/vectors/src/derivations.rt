@@ -1,0 +1,36 @@
+// Kind 3: reads a derivation.
+ghost use mathlib.Core.Path.{_≡_};
+ghost use Rattle.records.specs.DerivationBytes.{readDerivation};
+ghost use Rattle.vectors.specs.Lines.{derivationLine};
+use crate::answers::GOOD;
+use crate::answers::NOT_A_DERIVATION;
+use crate::input::Part;
+use crate::input::read_part;
+use crate::lines::Line;
+use crate::lines::write_line;
+use records::derivations::DerivationRead;
+use records::derivations::read_derivation;
+
+// The line of a derivation: how many bindings it lists and how many records its chain has.
+fn line_of(bytes: &[u8]) -> Line
+    ensures { λ r. ⌜ r ≡ derivationLine (readDerivation (now (bytes .entry))) ⌝ }
+{
+    match read_derivation(bytes) {
+        DerivationRead::Derivation(parts) => Line::Three(
+            GOOD,
+            parts.bindings,
+            parts.delegations + 1,
+        ),
+        DerivationRead::Not => Line::One(NOT_A_DERIVATION),
+    }
+}
+
+// Answers the case, and says whether to go on.
+pub fn answer() -> bool {
+    let mut buffer = io::large_buffer();
+    let Part::Whole(length) = read_part(&mut buffer) else {
+        return false;
+    };
+    write_line(line_of(&buffer[..length]));
+    true
+}

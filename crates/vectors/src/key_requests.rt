@@ -1,0 +1,32 @@
+// Kind 5: reads a key request.
+ghost use mathlib.Core.Path.{_≡_};
+ghost use Rattle.records.specs.Requests.{readKeyRequest};
+ghost use Rattle.vectors.specs.Lines.{keyRequestLine};
+use crate::answers::GOOD;
+use crate::answers::WRONG_REQUEST;
+use crate::input::Part;
+use crate::input::read_part;
+use crate::lines::Line;
+use crate::lines::write_line;
+use records::requests::KeyRequestRead;
+use records::requests::read_key_request;
+
+// The line of a key request: whether it is good.
+fn line_of(bytes: &[u8]) -> Line
+    ensures { λ r. ⌜ r ≡ keyRequestLine (readKeyRequest (now (bytes .entry))) ⌝ }
+{
+    match read_key_request(bytes) {
+        KeyRequestRead::KeyRequest(_) => Line::One(GOOD),
+        KeyRequestRead::Not => Line::One(WRONG_REQUEST),
+    }
+}
+
+// Answers the case, and says whether to go on.
+pub fn answer() -> bool {
+    let mut buffer = io::large_buffer();
+    let Part::Whole(length) = read_part(&mut buffer) else {
+        return false;
+    };
+    write_line(line_of(&buffer[..length]));
+    true
+}

@@ -1,0 +1,52 @@
+// Answer lines: decimal numbers with one space between them.
+use libc::STDOUT_FILENO;
+
+// The numbers of a line.
+pub enum Line {
+    One(usize),
+    Two(usize, usize),
+    Three(usize, usize, usize),
+    Five(usize, usize, usize, usize, usize),
+}
+
+// Writes the first number of a line.
+fn write_first(number: usize) {
+    io::print_decimal(STDOUT_FILENO, number as u64);
+}
+
+// Writes a further number of a line.
+fn write_next(number: usize) {
+    io::write_all(STDOUT_FILENO, b" ");
+    io::print_decimal(STDOUT_FILENO, number as u64);
+}
+
+// Writes the numbers of a line.
+fn write_numbers(line: Line) {
+    match line {
+        Line::One(first) => {
+            write_first(first);
+        }
+        Line::Two(first, second) => {
+            write_first(first);
+            write_next(second);
+        }
+        Line::Three(first, second, third) => {
+            write_first(first);
+            write_next(second);
+            write_next(third);
+        }
+        Line::Five(first, second, third, fourth, fifth) => {
+            write_first(first);
+            write_next(second);
+            write_next(third);
+            write_next(fourth);
+            write_next(fifth);
+        }
+    }
+}
+
+// Writes the line.
+pub fn write_line(line: Line) {
+    write_numbers(line);
+    io::write_all(STDOUT_FILENO, b"\n");
+}

@@ -1,0 +1,40 @@
+// vectors < CASES > LINES: the answer line of each case of a case file, in the file's order.
+use crate::input::stopped;
+use libc::STDIN_FILENO;
+
+mod answers;
+mod derivations;
+mod input;
+mod key_requests;
+mod lines;
+mod requests;
+mod tables;
+
+// Answers a case of this kind, and says whether to go on.
+fn answer_case(kind: u8) -> bool {
+    match kind {
+        1 => tables::answer(),
+        2 => requests::answer(),
+        3 => derivations::answer(),
+        5 => key_requests::answer(),
+        _ => stopped(b"no such kind"),
+    }
+}
+
+// Answers the next case, if there is one, and says whether to go on.
+fn answer_next() -> bool {
+    let mut kind = [0u8; 1];
+    let got = io::read_full(STDIN_FILENO, &mut kind);
+    if got == 0 {
+        return false;
+    }
+    answer_case(kind[0])
+}
+
+// A proved loop has to end, and nothing says that the input does: the turns count down from a number that no input uses up.
+fn main() {
+    let mut turns = u64::MAX;
+    while turns > 0 && answer_next() {
+        turns -= 1;
+    }
+}

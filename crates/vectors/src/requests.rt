@@ -1,0 +1,45 @@
+// Kind 2: reads a request against a table.
+ghost use mathlib.Core.Path.{_≡_};
+ghost use Rattle.table.specs.ReadTable.{readTable};
+ghost use Rattle.vectors.specs.Lines.{requestLine};
+use crate::answers::GOOD;
+use crate::answers::WRONG_REQUEST;
+use crate::answers::fault_line;
+use crate::input::Part;
+use crate::input::read_part;
+use crate::lines::Line;
+use crate::lines::write_line;
+use records::requests::RequestRead;
+use records::requests::read_request;
+use table::Loaded;
+use table::load;
+
+// The line of a request: the table's fault, or whether the request is good.
+fn line_of(bytes: &[u8], request: &[u8]) -> Line
+    ensures { λ r. ⌜ r ≡ requestLine (readTable (now (bytes .entry))) (now (request .entry)) ⌝ }
+{
+    match load(bytes) {
+        Loaded::Good(sections) => {
+            let spaces = sections.spaces;
+            match read_request(request, spaces.count) {
+                RequestRead::Request(_) => Line::One(GOOD),
+                RequestRead::Not => Line::One(WRONG_REQUEST),
+            }
+        }
+        Loaded::Bad(fault) => fault_line(fault),
+    }
+}
+
+// Answers the case, and says whether to go on.
+pub fn answer() -> bool {
+    let mut first = io::large_buffer();
+    let Part::Whole(table) = read_part(&mut first) else {
+        return false;
+    };
+    let mut second = io::large_buffer();
+    let Part::Whole(request) = read_part(&mut second) else {
+        return false;
+    };
+    write_line(line_of(&first[..table], &second[..request]));
+    true
+}

@@ -1,0 +1,44 @@
+// Kind 1: reads a table.
+ghost use mathlib.Core.Path.{_≡_};
+ghost use Rattle.table.specs.ReadTable.{readTable};
+ghost use Rattle.vectors.specs.Lines.{tableLine};
+use crate::answers::GOOD;
+use crate::answers::fault_line;
+use crate::input::Part;
+use crate::input::read_part;
+use crate::lines::Line;
+use crate::lines::write_line;
+use table::Loaded;
+use table::load;
+
+// The line of a table: how many records of each kind it has, or its fault.
+fn line_of(bytes: &[u8]) -> Line
+    ensures { λ r. ⌜ r ≡ tableLine (readTable (now (bytes .entry))) ⌝ }
+{
+    match load(bytes) {
+        Loaded::Good(sections) => {
+            let spaces = sections.spaces;
+            let bindings = sections.bindings;
+            let accesses = sections.accesses;
+            let delegations = sections.delegations;
+            Line::Five(
+                GOOD,
+                spaces.count,
+                bindings.count,
+                accesses.count,
+                delegations.count,
+            )
+        }
+        Loaded::Bad(fault) => fault_line(fault),
+    }
+}
+
+// Answers the case, and says whether to go on.
+pub fn answer() -> bool {
+    let mut buffer = io::large_buffer();
+    let Part::Whole(length) = read_part(&mut buffer) else {
+        return false;
+    };
+    write_line(line_of(&buffer[..length]));
+    true
+}
