@@ -169,20 +169,20 @@ module _ (t : NameTable) (good : GoodNames t) where
     )
 
 -- ---- how many entries are 0
-pub empty-set : (l : List ℕ) (i v : ℕ) → i < length l → entry l i ≡ 0 → 0 < v → empty (set l i v) < empty l
+pub empty-set : (l : List ℕ) (i v : ℕ) → i < length l → entry l i ≡ 0 → 0 < v → suc (empty (set l i v)) ≡ empty l
 empty-set [] i v h e p = absurd (not-suc-le-zero h)
 empty-set (x ∷ xs) zero zero h e p = absurd (not-suc-le-zero p)
-empty-set (zero ∷ xs) zero (suc v) h e p = le-refl _
+empty-set (zero ∷ xs) zero (suc v) h e p = refl
 empty-set (suc x ∷ xs) zero (suc v) h e p = absurd (omega arith)
-empty-set (zero ∷ xs) (suc i) v h e p = suc-le-suc (empty-set xs i v (le-of-suc-le-suc h) e p)
+empty-set (zero ∷ xs) (suc i) v h e p = ap suc (empty-set xs i v (le-of-suc-le-suc h) e p)
 empty-set (suc x ∷ xs) (suc i) v h e p = empty-set xs i v (le-of-suc-le-suc h) e p
 
-empty-le : (l : List ℕ) → empty l ≤ length l
+pub empty-le : (l : List ℕ) → empty l ≤ length l
 empty-le [] = zero-le
 empty-le (zero ∷ xs) = suc-le-suc (empty-le xs)
 empty-le (suc x ∷ xs) = omega (arith, empty-le xs)
 
-none-empty : (l : List ℕ) (i : ℕ) → i < length l → empty l ≡ 0 → entry l i ≡ 0 → ⊥
+pub none-empty : (l : List ℕ) (i : ℕ) → i < length l → empty l ≡ 0 → entry l i ≡ 0 → ⊥
 none-empty [] i h z e = not-suc-le-zero h
 none-empty (zero ∷ xs) i h z e = omega arith
 none-empty (suc x ∷ xs) zero h z e = omega arith
@@ -246,7 +246,7 @@ module _ (t : NameTable) (good : GoodNames t) where
           let p : 0 < k .0 = rw (getD-set-same sheet i (k .0) 0 fits) at (s .filled i (in-last (l .order) i)) in
           record {
             listed = rw (e, f) record { order = l .order ▷ i; filling = s };
-            went = inr (rw (e, f) (empty-set sheet i (k .0) fits e p));
+            went = inr (rw (e, f) (omega (arith, empty-set sheet i (k .0) fits e p)));
           }
 
   fillOne-length : (sheet : List ℕ) (i : ℕ) → length (fillOne t sheet i) ≡ length sheet

@@ -168,6 +168,6 @@ module _ (spaces : ℕ) (walks : (earlier : List Binding) → Walks (bindingNext
                     kept = subst (λ (j : ℕ). Kept nameOf (set names j p) (r .earlier ▷ x)) (sym k) (kept-more nameOf names (r .earlier) x p (omega (arith, k, r .size)) g (r .kept));
                     bases = and (r .earlier) x (r .bases) (binding-within spaces (isBound (r .earlier)) (rest s at) 0 x n f .1);
                     standing = subst (λ (j : ℕ). Standing (bindingRecord spaces unbound) s (set places j at) (r .earlier ▷ x)) (sym k)
-                        (standing-more (bindingRecord spaces unbound) s places (r .earlier) x at (at + n) (omega (arith, k, r .many))
+                        (standing-more (bindingRecord spaces unbound) s places (r .earlier) x at (at + n) (omega (arith, k, r .many)) (r .reading .within)
                         (reads-unbound spaces (isBound (r .earlier)) s at x (at + n) (reading-there (bindingNext spaces) walks s count from at i (r .earlier) (r .reading) x n f)) (r .standing));
                   }

@@ -40,12 +40,16 @@ module _ {A : Type 0} (f : A → ℕ) where
 -- ---- places
 module _ {A : Type 0} (P : Reader A) (s : List ℕ) where
   pub standing-none : (places : List ℕ) → Standing P s places []
-  standing-none places = record { stands = λ i x a. absurd (not-suc-le-zero (a .there)) }
+  standing-none places = record { within = λ i h. absurd (not-suc-le-zero h); stands = λ i x a. absurd (not-suc-le-zero (a .there)) }
 
-  pub standing-more : (places : List ℕ) (earlier : List A) (x : A) (at next : ℕ) → length earlier < length places → P s at ≡ got x next → Standing P s places earlier
+  pub standing-more : (places : List ℕ) (earlier : List A) (x : A) (at next : ℕ) → length earlier < length places → at ≤ length s → P s at ≡ got x next → Standing P s places earlier
       → Standing P s (set places (length earlier) at) (earlier ▷ x)
-  standing-more places earlier x at next h e w = record { stands = λ i y a. go i y a (ℕ-discrete i (length earlier)) }
+  standing-more places earlier x at next h m e w = record { within = λ i b. low i b (ℕ-discrete i (length earlier)); stands = λ i y a. go i y a (ℕ-discrete i (length earlier)) }
     where
+      low : (i : ℕ) → i < length (earlier ▷ x) → Dec (i ≡ length earlier) → getD (set places (length earlier) at) i 0 ≤ length s
+      low i b (yes q) = rw (q, getD-set-same places (length earlier) at 0 h) m
+      low i b (no q) = rw (getD-set-other places (length earlier) i at 0 q) (w .within i (omega (arith, b, length-append earlier (x ∷ []))))
+
       go : (i : ℕ) (y : A) → At (earlier ▷ x) i y → Dec (i ≡ length earlier) → (n : ℕ) × (P s (getD (set places (length earlier) at) i 0) ≡ got y n)
       go i y a (yes q) = (next, rw (q, getD-set-same places (length earlier) at 0 h, ← at-one (at-end earlier x) (rw q at a)) e)
       go i y a (no q) = let r = w .stands i y (at-before earlier x i y a q) in (r .0, rw (getD-set-other places (length earlier) i at 0 q) (r .1))

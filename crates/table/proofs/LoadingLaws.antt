@@ -47,6 +47,14 @@ module _ {A : Type 0} (P : List A → Reader A) (walks : (earlier : List A) → 
     there-got : (x : A) (n : ℕ) → P earlier (rest s at) 0 ≡ got x n → (P earlier s at ≡ got x (at + n)) × (at + n ≤ length s)
     there-got x n e = (from-there earlier at ∙ ap (movedBy at) e, omega (arith, size, walks earlier .ends x (rest s at) 0 n (omega arith) e .1))
 
+    -- And what stands at a place can be read from there.
+    pub there-back : (x : A) (next : ℕ) → P earlier s at ≡ got x next → (n : ℕ) × (P earlier (rest s at) 0 ≡ got x n)
+    there-back x next e = go (P earlier (rest s at) 0) (sym (from-there earlier at) ∙ e)
+      where
+        go : (p : Parsed A) → movedBy at p ≡ got x next → (n : ℕ) × (p ≡ got x n)
+        go (got y n) q = let u : y ≡ x = cc in (n, ap (λ (z : A). got z n) u)
+        go (bad f) q = let z : _≡_ {A = ℕ} 0 1 = cc in absurd (omega arith)
+
     there-bad : (e : Fault) → P earlier (rest s at) 0 ≡ bad e → (P earlier s at ≡ bad (movedFault at e)) × (at + e .place .offset ≤ length s)
     there-bad e q = (from-there earlier at ∙ ap (movedBy at) q, omega (arith, size, walks earlier .within e (rest s at) 0 (omega arith) q))
 

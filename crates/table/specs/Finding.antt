@@ -1,7 +1,7 @@
 -- Finding the space that has a key, and the binding that a space opens for a base name.
 use mathlib.Core.Path.{_≡_}
 use mathlib.Core.List.{List, map}
-use Prim.Native.Nat.{ℕ, _≤_}
+use Prim.Native.Nat.{ℕ, _<_, _≤_}
 use Rattle.rules.specs.Lists.{At}
 use Rattle.rules.specs.Ranges.{mostBase}
 use Rattle.rules.specs.Tables.{Target, Binding}
@@ -23,6 +23,11 @@ pub data FindsSpace (spaces : List Key) (k : Key) : SpaceFound → Type 0 where
 pub data FindsBinding (bindings : List Binding) (T : Space) (b : ℕ) : BindingFound → Type 0 where
   opens : (i : ℕ) (g : Target) → Opens bindings T b i g → FindsBinding bindings T b (binding.Binding i)
   nothing : ((i : ℕ) (g : Target) → Opens bindings T b i g → ⊥) → FindsBinding bindings T b binding.None
+
+-- It is one of so many.
+abbrev pub Below : ℕ → BindingFound → Type 0
+Below n (binding.Binding i) = i < n
+Below n binding.None = Unit {0}
 
 -- ---- what code keeps of them
 -- The keys of the spaces, as numbers.

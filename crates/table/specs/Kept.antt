@@ -2,7 +2,7 @@
 use mathlib.Core.Path.{_≡_}
 use mathlib.Core.Bool.{Bool, false}
 use mathlib.Core.List.{List, map}
-use Prim.Native.Nat.{ℕ}
+use Prim.Native.Nat.{ℕ, _<_, _≤_}
 use lib.ListN.{length, take, getD}
 use Rattle.rules.specs.Lists.{At}
 use Rattle.rules.specs.Tables.{Binding}
@@ -22,6 +22,7 @@ pub record Kept {A : Type 0} (f : A → ℕ) (entries : List ℕ) (l : List A) :
 
 -- The entries are places, and at each its record can be read.
 pub record Standing {A : Type 0} (P : Reader A) (s places : List ℕ) (l : List A) : Type 0 where
+  pub within : (i : ℕ) → i < length l → getD places i 0 ≤ length s
   pub stands : (i : ℕ) (x : A) → At l i x → (next : ℕ) × (P s (getD places i 0) ≡ got x next)
 
 abbrev pub numberOf : Key → ℕ

@@ -1,5 +1,5 @@
 -- A table: version 1, then the spaces, bindings, access records and delegations. At most 32,768 bytes.
-use mathlib.Core.List.{List, _++_, map}
+use mathlib.Core.List.{List, [], _++_, map}
 use Prim.Native.Nat.{ℕ}
 use lib.ListN.{length}
 use Rattle.rules.specs.Choice.{pick}
@@ -55,6 +55,14 @@ tableFields s at =
 -- THE TABLE that the bytes hold, or their fault.
 unfoldable pub readTable : List ℕ → Parsed Laid
 readTable s = allOf mostTable tableFields s
+
+-- The table that good bytes hold. (Of other bytes nothing is said: they count as an empty one.)
+abbrev pub tableIn : Parsed Laid → Table
+tableIn (got l at) = tableOf l
+tableIn (bad e) = record { names = record { spaces = []; bindings = [] }; accesses = []; delegations = [] }
+
+unfoldable pub tableAt : List ℕ → Table
+tableAt s = tableIn (readTable s)
 
 -- ---- its bytes
 abbrev pub sectionBytes : {A : Type 0} → (A → List ℕ) → List A → List ℕ

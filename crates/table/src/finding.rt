@@ -1,6 +1,7 @@
 // Finding the space that has a key, and the binding that a space opens for a base name.
 ghost use Prim.Native.Nat.{_<_};
-ghost use Rattle.table.specs.Finding.{FindsSpace, FindsNamed, keysOf};
+ghost use lib.ListN.{length};
+ghost use Rattle.table.specs.Finding.{FindsSpace, FindsNamed, Below, keysOf};
 use records::bindings::pack;
 use rules::Key;
 use rules::Space;
@@ -32,7 +33,8 @@ pub fn find_space(keys: &[u32], key: Key) -> SpaceFound
 // The binding that the space opens for the base name; `names` are the names that the bindings bind, packed, in their order.
 pub fn find_binding(names: &[u32], space: Space, base: u32) -> BindingFound
     requires { ⌜ (space .0 < 64) × (base < 65536) ⌝ }
-    ensures { λ r. ⌜ FindsNamed (now (names .entry)) space base r ⌝ }
+    ensures found { λ r. ⌜ FindsNamed (now (names .entry)) space base r ⌝ }
+    ensures there { λ r. ⌜ Below (length (now (names .entry))) r ⌝ }
 {
     let wanted = pack(space, base);
     let mut i = 0;

@@ -26,7 +26,7 @@ shared-slice-read-if1 : tie.Need-shared-slice-read-if1 Inv-loop μ-loop
 shared-slice-read-if1 c = search needs
 
 returns : tie.Need-returns Inv-loop μ-loop
-returns c = λ l kept. binding-here (c .before .before .before .before .before .before .args .names .now) (c .before .before .before .before .before .before .args .space) (c .before .before .before .before .before .before .args .base) (c .before .before .before .before .before .before .pre .1) l kept (c .before .before .before .loop .i) (c .before .before .loop-test .taken) (c .if1 .taken ∙ c .before .before .before .before .pack .ensures)
+returns c = (λ l kept. binding-here (c .before .before .before .before .before .before .args .names .now) (c .before .before .before .before .before .before .args .space) (c .before .before .before .before .before .before .args .base) (c .before .before .before .before .before .before .pre .1) l kept (c .before .before .before .loop .i) (c .before .before .loop-test .taken) (c .if1 .taken ∙ c .before .before .before .before .pack .ensures), c .before .before .loop-test .taken)
 
 add-i : tie.Need-add-i Inv-loop μ-loop
 add-i c = search needs
@@ -38,7 +38,7 @@ loop-again : tie.Need-loop-again Inv-loop μ-loop
 loop-again c = passed-on _ _ _ (c .before .before .before .loop .inv) (c .before .before .loop-test .taken) (c .if1 .left)
 
 returns-2 : tie.Need-returns-2 Inv-loop μ-loop
-returns-2 c = λ l kept. binding-nowhere (c .before .before .before .before .args .names .now) (c .before .before .before .before .args .space) (c .before .before .before .before .args .base) (c .before .before .before .before .pre .1) l kept (c .before .loop .i) (rw (c .before .before .pack .ensures) at (c .before .loop .inv)) (c .loop-test .left)
+returns-2 c = (λ l kept. binding-nowhere (c .before .before .before .before .args .names .now) (c .before .before .before .before .args .space) (c .before .before .before .before .args .base) (c .before .before .before .before .pre .1) l kept (c .before .loop .i) (rw (c .before .before .pack .ensures) at (c .before .loop .inv)) (c .loop-test .left), tt)
 
 pub find-binding-spec : {M : Type 1} → statement M
 find-binding-spec =
