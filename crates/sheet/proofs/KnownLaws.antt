@@ -29,22 +29,22 @@ module _ (s : List ℕ) (l : Laid) (end : ℕ) (bytes : Bytes s) (e : readTable 
   pub good-table : Good (tableAt s)
   good-table = subst Good (sym (table-at s l end e)) (table-form s l end bytes e .1)
 
-  module _ (keys names places : List ℕ) (kept : Indexed s l keys names places) (room : mostBindings ≤ length places) where
+  module _ (keys names places accesses delegations : List ℕ) (kept : Indexed s l keys names places accesses delegations) (room : mostBindings ≤ length places) where
     known : Known (tableOf l .names) s (take (length (l .spaces .records)) keys) (take (length (l .bindings .records)) names) places
     known =
         let g = table-form s l end bytes e .1 in
         let n : length (take (length (l .spaces .records)) keys) ≡ length (l .spaces .records) = ap length (kept .spaces .same) ∙ length-map (l .spaces .records) numberOf in
-        let m : length (take (length (l .bindings .records)) names) ≡ length (l .bindings .records) = ap length (kept .bindings .same) ∙ length-map (l .bindings .records) nameOf in
+        let m : length (take (length (l .bindings .records)) names) ≡ length (l .bindings .records) = ap length (kept .names .same) ∙ length-map (l .bindings .records) nameOf in
         record {
           index = record {
             good = g .names;
             spaces = ap keysOf (kept .spaces .same) ∙ keys-back (l .spaces .records);
-            bindings = record { same = sym (kept .bindings .same); bases = λ i x a. g .names .bindings i x a .base .most };
+            bindings = record { same = sym (kept .names .same); bases = λ i x a. g .names .bindings i x a .base .most };
           };
           fewSpaces = omega (arith, n, g .fewSpaces);
           fewBindings = omega (arith, m, g .fewBindings);
           room = omega (arith, m, g .fewBindings, room);
-          standing = subst (λ (c : ℕ). Standing (bindingRecord c unbound) s places (l .bindings .records)) (sym n) (kept .standing);
+          standing = subst (λ (c : ℕ). Standing (bindingRecord c unbound) s places (l .bindings .records)) (sym n) (kept .bindings);
         }
 
     pub known-here : Known (tableAt s .names) s (take (length (l .spaces .records)) keys) (take (length (l .bindings .records)) names) places

@@ -2,6 +2,7 @@
 pub mod AnswersLaws
 pub mod LoadingLaws
 pub mod KeptLaws
+pub mod PlacingLaws
 pub mod BindingsLaws
 pub mod SpacesLaws
 pub mod SectionsLaws

@@ -42,13 +42,13 @@ delegationsOf spaces earlier = delegationRecord spaces
 loaded-apart : (f : Fault) (l : Laid) (at : ℕ) → loaded.Bad f ≡ loadedOf (got l at) → ⊥
 loaded-apart f l at e = let z : _≡_ {A = ℕ} 0 1 = cc in absurd (omega arith)
 
-module _ (s keys names places : List ℕ) where
+module _ (s keys names places accessPlaces delegationPlaces : List ℕ) where
   -- What is answered, with what is kept if all is well.
   abbrev pub Loads : Loaded → Type 0
-  Loads r = Besides loadedOf (λ (l : Laid). Indexed s l keys names places) r (readTable s)
+  Loads r = Besides loadedOf (λ (l : Laid). Indexed s l keys names places accessPlaces delegationPlaces) r (readTable s)
 
   failed : (e : Fault) → readTable s ≡ bad e → Loads (loaded.Bad e)
-  failed e q = ill loadedOf (λ (l : Laid). Indexed s l keys names places) (loaded.Bad e) (readTable s) (loaded-apart e) (ap loadedOf (sym q))
+  failed e q = ill loadedOf (λ (l : Laid). Indexed s l keys names places accessPlaces delegationPlaces) (loaded.Bad e) (readTable s) (loaded-apart e) (ap loadedOf (sym q))
 
   pub table-long : (e : Fault) → mostTable < length s → e ≡ faultAt kind.Long 0 → Loads (loaded.Bad e)
   unfolding readTable
@@ -111,6 +111,9 @@ module _ (s keys names places : List ℕ) where
             second : (p : Part Binding) × (section mostBindings (bindingsOf spaces) s b ≡ got p c) × (sectionOf p ≡ x₂)
             second = section-got (section mostBindings (bindingsOf spaces) s b) r₂ x₂ c known₂ e₂
 
+            abbrev pub AccessesKept : ℕ → Type 0
+            AccessesKept n = IfGood (section mostAccesses (accessesOf n) s c) (λ (l : Part AccessRecord). Standing (accessRecord n) s accessPlaces (l .records))
+
             known₃ : r₃ ≡ sectionRead (section mostAccesses (accessesOf spaces) s c)
             known₃ = found₃ ∙ ap (λ (n : ℕ). sectionRead (section mostAccesses (accessesOf n) s c)) counted
 
@@ -123,6 +126,9 @@ module _ (s keys names places : List ℕ) where
             module _ (x₃ : Section) (d : ℕ) (e₃ : r₃ ≡ asSection.Section x₃ d) (r₄ : SectionRead) (found₄ : r₄ ≡ sectionRead (section mostDelegations (delegationsOf (x₁ .count)) s d)) where
               third : (p : Part AccessRecord) × (section mostAccesses (accessesOf spaces) s c ≡ got p d) × (sectionOf p ≡ x₃)
               third = section-got (section mostAccesses (accessesOf spaces) s c) r₃ x₃ d known₃ e₃
+
+              abbrev pub DelegationsKept : ℕ → Type 0
+              DelegationsKept n = IfGood (section mostDelegations (delegationsOf n) s d) (λ (l : Part Delegation). Standing (delegationRecord n) s delegationPlaces (l .records))
 
               known₄ : r₄ ≡ sectionRead (section mostDelegations (delegationsOf spaces) s d)
               known₄ = found₄ ∙ ap (λ (n : ℕ). sectionRead (section mostDelegations (delegationsOf n) s d)) counted
@@ -150,12 +156,18 @@ module _ (s keys names places : List ℕ) where
                 unfolding readTable
                 table-more f n q = failed f (all-more tableFields mostTable s h laid end all-read n ∙ ap bad (sym q))
 
-                pub table-found : IfGood (section mostSpaces spaceKey s a) (λ (l : Part Key). Kept numberOf keys (l .records)) → BindingsKept (x₁ .count) → end ≡ length s
-                    → Loads (loaded.Good (record { spaces = x₁; bindings = x₂; accesses = x₃; delegations = x₄ }))
+                pub table-found : IfGood (section mostSpaces spaceKey s a) (λ (l : Part Key). Kept numberOf keys (l .records)) → BindingsKept (x₁ .count) → AccessesKept (x₁ .count) → DelegationsKept (x₁ .count)
+                    → end ≡ length s → Loads (loaded.Good (record { spaces = x₁; bindings = x₂; accesses = x₃; delegations = x₄ }))
                 unfolding readTable laid spaces
-                table-found k₁ k₂ n =
+                table-found k₁ k₂ k₃ k₄ n =
                     let g = all-got tableFields mostTable s h laid end all-read n in
                     let w = subst BindingsKept counted k₂ (second .0) c (second .1) in
-                    well loadedOf (λ (l : Laid). Indexed s l keys names places) (loaded.Good (record { spaces = x₁; bindings = x₂; accesses = x₃; delegations = x₄ })) (readTable s) laid end g
-                    (record { spaces = k₁ (first .0) b (first .1); bindings = w .0; standing = w .1 })
+                    well loadedOf (λ (l : Laid). Indexed s l keys names places accessPlaces delegationPlaces) (loaded.Good (record { spaces = x₁; bindings = x₂; accesses = x₃; delegations = x₄ })) (readTable s) laid end g
+                    (record {
+                      spaces = k₁ (first .0) b (first .1);
+                      names = w .0;
+                      bindings = w .1;
+                      accesses = subst AccessesKept counted k₃ (third .0) d (third .1);
+                      delegations = subst DelegationsKept counted k₄ (fourth .0) end (fourth .1);
+                    })
                     (rw (sym (first .2), sym (second .2), sym (third .2), sym (fourth .2)) (ap loadedOf (sym g)))

@@ -10,6 +10,8 @@ use Rattle.rules.specs.declared.Key.{Key}
 use Rattle.rules.specs.declared.Space.{Space}
 use Rattle.records.specs.Parsed.{Parsed, got, Reader}
 use Rattle.records.specs.Bindings.{bindingRecord, packed}
+use Rattle.records.specs.Accesses.{accessRecord}
+use Rattle.records.specs.Delegations.{delegationRecord}
 use Rattle.table.specs.ReadTable.{Laid}
 
 -- What holds of what was read, if all is well.
@@ -35,8 +37,10 @@ nameOf x = packed (x .space) (x .base)
 abbrev pub unbound : Space → ℕ → Bool
 unbound S b = false
 
--- The keys of the spaces; the names that the bindings bind, packed; and where the bindings stand.
-pub record Indexed (s : List ℕ) (l : Laid) (keys names places : List ℕ) : Type 0 where
+-- What is kept of a whole table: the keys of the spaces, the names that the bindings bind, packed, and where the records stand.
+pub record Indexed (s : List ℕ) (l : Laid) (keys packedNames bindingPlaces accessPlaces delegationPlaces : List ℕ) : Type 0 where
   pub spaces : Kept numberOf keys (l .spaces .records)
-  pub bindings : Kept nameOf names (l .bindings .records)
-  pub standing : Standing (bindingRecord (length (l .spaces .records)) unbound) s places (l .bindings .records)
+  pub names : Kept nameOf packedNames (l .bindings .records)
+  pub bindings : Standing (bindingRecord (length (l .spaces .records)) unbound) s bindingPlaces (l .bindings .records)
+  pub accesses : Standing (accessRecord (length (l .spaces .records))) s accessPlaces (l .accesses .records)
+  pub delegations : Standing (delegationRecord (length (l .spaces .records))) s delegationPlaces (l .delegations .records)

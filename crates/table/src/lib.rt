@@ -2,7 +2,7 @@
 ghost use mathlib.Core.Path.{_≡_};
 ghost use Prim.Native.Nat.{_≤_};
 ghost use lib.ListN.{length};
-ghost use Rattle.rules.specs.Ranges.{mostSpaces, mostBindings};
+ghost use Rattle.rules.specs.Ranges.{mostSpaces, mostBindings, mostAccesses, mostDelegations};
 ghost use Rattle.table.specs.ReadTable.{readTable, loadedOf};
 ghost use Rattle.table.specs.Kept.{IfGood, Indexed};
 use crate::loading::Section;
@@ -43,15 +43,18 @@ pub fn load(table: &[u8]) -> Loaded
 {
     let mut keys = [0; 64];
     let mut names = [0; 256];
-    let mut places = [0; 256];
-    load_index(table, &mut keys, &mut names, &mut places)
+    let mut bindings = [0; 256];
+    let mut accesses = [0; 256];
+    let mut delegations = [0; 512];
+    load_index(table, &mut keys, &mut names, &mut bindings, &mut accesses, &mut delegations)
 }
 
-// Reads the table whole, and keeps the keys of its spaces, and of its bindings the names and where they stand.
-pub fn load_index(table: &[u8], keys: &mut [u32], names: &mut [u32], places: &mut [u16]) -> Loaded
-    requires { ⌜ (mostSpaces ≤ length (now keys)) × (mostBindings ≤ length (now names)) × (mostBindings ≤ length (now places)) ⌝ }
+// Reads the table whole, and keeps the keys of its spaces, the names that its bindings bind, and where its records stand.
+pub fn load_index(table: &[u8], keys: &mut [u32], names: &mut [u32], bindings: &mut [u16], accesses: &mut [u16], delegations: &mut [u16]) -> Loaded
+    requires { ⌜ (mostSpaces ≤ length (now keys)) × (mostBindings ≤ length (now names)) × (mostBindings ≤ length (now bindings)) × (mostAccesses ≤ length (now accesses)) × (mostDelegations ≤ length (now delegations)) ⌝ }
     ensures read { λ r. ⌜ r ≡ loadedOf (readTable (now (table .entry))) ⌝ }
-    ensures kept { λ r. ⌜ IfGood (readTable (now (table .entry))) (λ l. Indexed (now (table .entry)) l (now (keys .exit)) (now (names .exit)) (now (places .exit))) ⌝ }
+    ensures kept { λ r. ⌜ IfGood (readTable (now (table .entry)))
+        (λ l. Indexed (now (table .entry)) l (now (keys .exit)) (now (names .exit)) (now (bindings .exit)) (now (accesses .exit)) (now (delegations .exit))) ⌝ }
 {
     if MOST_TABLE < table.len() {
         return Loaded::Bad(fault_at(Kind::Long, 0));
@@ -64,24 +67,24 @@ pub fn load_index(table: &[u8], keys: &mut [u32], names: &mut [u32], places: &mu
     let SectionRead::Section(spaces, at2) = first else {
         return Loaded::Bad(section_fault(first));
     };
-    let second = load_bindings(table, at2, spaces.count, names, places);
-    let SectionRead::Section(bindings, at3) = second else {
+    let second = load_bindings(table, at2, spaces.count, names, bindings);
+    let SectionRead::Section(binding_section, at3) = second else {
         return Loaded::Bad(section_fault(second));
     };
-    let third = load_accesses(table, at3, spaces.count);
-    let SectionRead::Section(accesses, at4) = third else {
+    let third = load_accesses(table, at3, spaces.count, accesses);
+    let SectionRead::Section(access_section, at4) = third else {
         return Loaded::Bad(section_fault(third));
     };
-    let fourth = load_delegations(table, at4, spaces.count);
-    let SectionRead::Section(delegations, end) = fourth else {
+    let fourth = load_delegations(table, at4, spaces.count, delegations);
+    let SectionRead::Section(delegation_section, end) = fourth else {
         return Loaded::Bad(section_fault(fourth));
     };
     if end == table.len() {
         return Loaded::Good(Sections {
             spaces,
-            bindings,
-            accesses,
-            delegations,
+            bindings: binding_section,
+            accesses: access_section,
+            delegations: delegation_section,
         });
     }
     Loaded::Bad(fault_at(Kind::Extra, end))

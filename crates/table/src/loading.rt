@@ -127,16 +127,18 @@ fn read_bindings(
     After::At(at)
 }
 
-// So many access records from a place on.
-fn read_accesses(table: &[u8], from: usize, count: usize, spaces: usize) -> After
-    requires { ⌜ from ≤ length (now table) ⌝ }
-    ensures { λ r. ⌜ r ≡ afterRead (many (λ earlier. accessRecord spaces) count [] (now (table .entry)) from) ⌝ }
+// So many access records from a place on; where they stand is kept in `places`.
+fn read_accesses(table: &[u8], from: usize, count: usize, spaces: usize, places: &mut [u16]) -> After
+    requires { ⌜ (count ≤ length (now places)) × (from ≤ length (now table)) × (length (now table) ≤ mostTable) ⌝ }
+    ensures read { λ r. ⌜ r ≡ afterRead (many (λ earlier. accessRecord spaces) count [] (now (table .entry)) from) ⌝ }
+    ensures kept { λ r. ⌜ IfGood (many (λ earlier. accessRecord spaces) count [] (now (table .entry)) from) (λ l. Standing (accessRecord spaces) (now (table .entry)) (now (places .exit)) l) ⌝ }
 {
     let mut at = from;
     let mut i = 0;
     while i < count {
         match read_access(&table[at..], spaces) {
             AccessRead::Access(_, taken) => {
+                places[i] = at as u16;
                 at = at + taken;
                 i = i + 1;
             }
@@ -148,16 +150,18 @@ fn read_accesses(table: &[u8], from: usize, count: usize, spaces: usize) -> Afte
     After::At(at)
 }
 
-// So many delegations from a place on.
-fn read_delegations(table: &[u8], from: usize, count: usize, spaces: usize) -> After
-    requires { ⌜ from ≤ length (now table) ⌝ }
-    ensures { λ r. ⌜ r ≡ afterRead (many (λ earlier. delegationRecord spaces) count [] (now (table .entry)) from) ⌝ }
+// So many delegations from a place on; where they stand is kept in `places`.
+fn read_delegations(table: &[u8], from: usize, count: usize, spaces: usize, places: &mut [u16]) -> After
+    requires { ⌜ (count ≤ length (now places)) × (from ≤ length (now table)) × (length (now table) ≤ mostTable) ⌝ }
+    ensures read { λ r. ⌜ r ≡ afterRead (many (λ earlier. delegationRecord spaces) count [] (now (table .entry)) from) ⌝ }
+    ensures kept { λ r. ⌜ IfGood (many (λ earlier. delegationRecord spaces) count [] (now (table .entry)) from) (λ l. Standing (delegationRecord spaces) (now (table .entry)) (now (places .exit)) l) ⌝ }
 {
     let mut at = from;
     let mut i = 0;
     while i < count {
         match read_delegation(&table[at..], spaces) {
             DelegationRead::Delegation(_, taken) => {
+                places[i] = at as u16;
                 at = at + taken;
                 i = i + 1;
             }
@@ -212,34 +216,38 @@ pub fn load_bindings(
     SectionRead::Section(Section { count, first }, at)
 }
 
-// The section of the access records.
-pub fn load_accesses(table: &[u8], from: usize, spaces: usize) -> SectionRead
-    requires { ⌜ from ≤ length (now table) ⌝ }
-    ensures { λ r. ⌜ r ≡ sectionRead (section mostAccesses (λ earlier. accessRecord spaces) (now (table .entry)) from) ⌝ }
+// The section of the access records; where they stand is kept in `places`.
+pub fn load_accesses(table: &[u8], from: usize, spaces: usize, places: &mut [u16]) -> SectionRead
+    requires { ⌜ (mostAccesses ≤ length (now places)) × (from ≤ length (now table)) × (length (now table) ≤ mostTable) ⌝ }
+    ensures read { λ r. ⌜ r ≡ sectionRead (section mostAccesses (λ earlier. accessRecord spaces) (now (table .entry)) from) ⌝ }
+    ensures kept { λ r. ⌜ IfGood (section mostAccesses (λ earlier. accessRecord spaces) (now (table .entry)) from)
+        (λ l. Standing (accessRecord spaces) (now (table .entry)) (now (places .exit)) (l .records)) ⌝ }
 {
     let header = read_field(table, from, 0, MOST_ACCESSES);
     let Field::Value(number, first) = header else {
         return SectionRead::Fault(field_fault(header));
     };
     let count = number as usize;
-    let rest = read_accesses(table, first, count, spaces);
+    let rest = read_accesses(table, first, count, spaces, places);
     let After::At(at) = rest else {
         return SectionRead::Fault(after_fault(rest));
     };
     SectionRead::Section(Section { count, first }, at)
 }
 
-// The section of the delegations.
-pub fn load_delegations(table: &[u8], from: usize, spaces: usize) -> SectionRead
-    requires { ⌜ from ≤ length (now table) ⌝ }
-    ensures { λ r. ⌜ r ≡ sectionRead (section mostDelegations (λ earlier. delegationRecord spaces) (now (table .entry)) from) ⌝ }
+// The section of the delegations; where they stand is kept in `places`.
+pub fn load_delegations(table: &[u8], from: usize, spaces: usize, places: &mut [u16]) -> SectionRead
+    requires { ⌜ (mostDelegations ≤ length (now places)) × (from ≤ length (now table)) × (length (now table) ≤ mostTable) ⌝ }
+    ensures read { λ r. ⌜ r ≡ sectionRead (section mostDelegations (λ earlier. delegationRecord spaces) (now (table .entry)) from) ⌝ }
+    ensures kept { λ r. ⌜ IfGood (section mostDelegations (λ earlier. delegationRecord spaces) (now (table .entry)) from)
+        (λ l. Standing (delegationRecord spaces) (now (table .entry)) (now (places .exit)) (l .records)) ⌝ }
 {
     let header = read_field(table, from, 0, MOST_DELEGATIONS);
     let Field::Value(number, first) = header else {
         return SectionRead::Fault(field_fault(header));
     };
     let count = number as usize;
-    let rest = read_delegations(table, first, count, spaces);
+    let rest = read_delegations(table, first, count, spaces, places);
     let After::At(at) = rest else {
         return SectionRead::Fault(after_fault(rest));
     };
