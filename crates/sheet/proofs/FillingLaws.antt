@@ -21,10 +21,10 @@ use Rattle.rules.proofs.FollowingLaws.{target-more}
 use Rattle.rules.proofs.SheetsLaws.{filling-start, filling-step, rest-exact}
 use Rattle.rules.proofs.RoundsLaws.{empty-set, none-empty}
 use Rattle.table.proofs.FindingLaws.{at-below}
-use Rattle.sheet.specs.Finds.{Finds, key, nothing}
 use Rattle.sheet.specs.Listings.{Known, Leading, Listing, Quiet, Turn, more, same, Round, Filled}
 use Rattle.sheet.specs.declared.following.Followed.{Followed}
 use Rattle.sheet.specs.declared.following.Followed.the-variants as followed
+use Rattle.sheet.proofs.FindsLaws.{finds-key, finds-none}
 use Rattle.sheet.proofs.MeaningLaws.{index-bindings}
 
 module _ (t : NameTable) (sheet order : List ℕ) (listed : ℕ) (now : Listing t sheet order listed) where
@@ -35,19 +35,11 @@ module _ (t : NameTable) (sheet order : List ℕ) (listed : ℕ) (now : Listing 
 
     module _ (r : Followed) (found : Leading t sheet i r) where
       pub leads-nowhere : r ≡ followed.Nothing → Turn t i sheet sheet listed listed
-      leads-nowhere e = same refl (record { quiet = λ x k a z w. none r (found .finds x a) e k w })
-        where
-          none : {P : Key → Type 0} (r : Followed) → Finds P r → r ≡ followed.Nothing → (k : Key) → P k → ⊥
-          none _ (key m v) e k w = let z : _≡_ {A = ℕ} 0 1 = cc in absurd (omega arith)
-          none _ (nothing f) e k w = f k w
+      leads-nowhere e = same refl (record { quiet = λ x k a z w. finds-none (found .finds x a) e k w })
 
       module _ (good : GoodNames t) (k : Key) (e : r ≡ followed.Key k) (z : entry sheet i ≡ 0) where
         leads : (x : Binding) → At (t .bindings) i x → TargetLeads t (InSheet t sheet) (x .target) k
-        leads x a = told r (found .finds x a) e
-          where
-            told : {P : Key → Type 0} (r : Followed) → Finds P r → r ≡ followed.Key k → P k
-            told {P} _ (key m v) e = let q : m ≡ k = cc in subst P q v
-            told _ (nothing f) e = let z : _≡_ {A = ℕ} 0 1 = cc in absurd (omega arith)
+        leads x a = finds-key (found .finds x a) e
 
         next : Filling t (set sheet i (k .0)) (take listed order ▷ i)
         next =

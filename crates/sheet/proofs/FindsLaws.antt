@@ -1,16 +1,19 @@
 -- Following, name by name.
 use mathlib.Core.Path.{_≡_, refl, sym, _∙_, ap, subst}
 use mathlib.Core.List.{List, [], _∷_}
+use mathlib.Core.Option.{Option·some-injective}
 use Prim.Native.Nat.{ℕ, zero, suc, _-_, _<_, _≤_}
 use native.Mathlib.Omega.{arith}
 use lib.ListN.{length, take, getD, length-map}
-use Rattle.rules.specs.Tables.{Target, Binding, NameTable}
+use Rattle.rules.specs.Tables.{Target, toName, Binding, NameTable}
+use Rattle.rules.specs.Ranges.{GoodNames}
 use Rattle.rules.specs.Names.{IsSelf, Opens}
 use Rattle.rules.specs.Sheets.{entry}
 use Rattle.rules.specs.Following.{InSheet, Leads, PathLeads, NameLeads, TargetLeads}
 use Rattle.rules.specs.declared.Key.{Key}
 use Rattle.rules.specs.declared.Space.{Space}
 use Rattle.rules.proofs.NamesLaws.{self-one, opens-one}
+use Rattle.rules.proofs.RoundsLaws.{target-leads}
 use Rattle.records.specs.Paths.{pathOf}
 use Rattle.records.specs.Targets.{targetOf}
 use Rattle.records.specs.declared.paths.Path.{Path}
@@ -26,6 +29,19 @@ use Rattle.table.specs.declared.finding.BindingFound.the-variants as binding
 use Rattle.sheet.specs.Finds.{Finds, key, nothing, Index, Fitting, FittingTarget, restOf}
 use Rattle.sheet.specs.declared.following.Followed.{Followed}
 use Rattle.sheet.specs.declared.following.Followed.the-variants as followed
+
+-- ---- what was found
+pub finds-key : {P : Key → Type 0} {r : Followed} {k : Key} → Finds P r → r ≡ followed.Key k → P k
+finds-key {P} {k = k} (key m v) e = let q : m ≡ k = cc in subst P q v
+finds-key (nothing f) e = let z : _≡_ {A = ℕ} 0 1 = cc in absurd (omega arith)
+
+pub finds-none : {P : Key → Type 0} {r : Followed} → Finds P r → r ≡ followed.Nothing → (k : Key) → P k → ⊥
+finds-none (key m v) e k w = let z : _≡_ {A = ℕ} 0 1 = cc in absurd (omega arith)
+finds-none (nothing f) e k w = f k w
+
+-- A name leads to one key.
+pub leads-one : (t : NameTable) → GoodNames t → (sheet : List ℕ) (S : Space) (p : List ℕ) (k m : Key) → NameLeads t (InSheet t sheet) S p k → NameLeads t (InSheet t sheet) S p m → k ≡ m
+leads-one t good sheet S p k m v w = Option·some-injective k m (sym (target-leads t good sheet (toName S p) k .1 v) ∙ target-leads t good sheet (toName S p) m .1 w)
 
 -- ---- paths
 pub path-none : (p : Path) → p .length ≡ 0 → pathOf p ≡ []
@@ -49,7 +65,7 @@ rest-fits p rest e f = subst Fitting (sym e) (fits-on p f)
     fits-on : (p : Path) → Fitting p → Fitting (restOf p)
     fits-on p f = record { short = omega (arith, f .short); first = f .second; second = f .third; third = f .fourth; fourth = omega arith }
 
--- ---- what was found
+-- ---- spaces and bindings that were found
 pub space-has : {spaces : List Key} {k : Key} {r : SpaceFound} (S : Space) → FindsSpace spaces k r → r ≡ space.Space S → IsSelf spaces S k
 space-has {spaces} {k} S (has T w) e = let q : T ≡ S = cc in subst (λ (U : Space). IsSelf spaces U k) q w
 space-has S (nobody f) e = let z : _≡_ {A = ℕ} 0 1 = cc in absurd (omega arith)

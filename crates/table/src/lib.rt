@@ -46,11 +46,25 @@ pub fn load(table: &[u8]) -> Loaded
     let mut bindings = [0; 256];
     let mut accesses = [0; 256];
     let mut delegations = [0; 512];
-    load_index(table, &mut keys, &mut names, &mut bindings, &mut accesses, &mut delegations)
+    load_index(
+        table,
+        &mut keys,
+        &mut names,
+        &mut bindings,
+        &mut accesses,
+        &mut delegations,
+    )
 }
 
 // Reads the table whole, and keeps the keys of its spaces, the names that its bindings bind, and where its records stand.
-pub fn load_index(table: &[u8], keys: &mut [u32], names: &mut [u32], bindings: &mut [u16], accesses: &mut [u16], delegations: &mut [u16]) -> Loaded
+pub fn load_index(
+    table: &[u8],
+    keys: &mut [u32],
+    names: &mut [u32],
+    bindings: &mut [u16],
+    accesses: &mut [u16],
+    delegations: &mut [u16],
+) -> Loaded
     requires { ⌜ (mostSpaces ≤ length (now keys)) × (mostBindings ≤ length (now names)) × (mostBindings ≤ length (now bindings)) × (mostAccesses ≤ length (now accesses)) × (mostDelegations ≤ length (now delegations)) ⌝ }
     ensures read { λ r. ⌜ r ≡ loadedOf (readTable (now (table .entry))) ⌝ }
     ensures kept { λ r. ⌜ IfGood (readTable (now (table .entry)))

@@ -128,7 +128,13 @@ fn read_bindings(
 }
 
 // So many access records from a place on; where they stand is kept in `places`.
-fn read_accesses(table: &[u8], from: usize, count: usize, spaces: usize, places: &mut [u16]) -> After
+fn read_accesses(
+    table: &[u8],
+    from: usize,
+    count: usize,
+    spaces: usize,
+    places: &mut [u16],
+) -> After
     requires { ⌜ (count ≤ length (now places)) × (from ≤ length (now table)) × (length (now table) ≤ mostTable) ⌝ }
     ensures read { λ r. ⌜ r ≡ afterRead (many (λ earlier. accessRecord spaces) count [] (now (table .entry)) from) ⌝ }
     ensures kept { λ r. ⌜ IfGood (many (λ earlier. accessRecord spaces) count [] (now (table .entry)) from) (λ l. Standing (accessRecord spaces) (now (table .entry)) (now (places .exit)) l) ⌝ }
@@ -151,7 +157,13 @@ fn read_accesses(table: &[u8], from: usize, count: usize, spaces: usize, places:
 }
 
 // So many delegations from a place on; where they stand is kept in `places`.
-fn read_delegations(table: &[u8], from: usize, count: usize, spaces: usize, places: &mut [u16]) -> After
+fn read_delegations(
+    table: &[u8],
+    from: usize,
+    count: usize,
+    spaces: usize,
+    places: &mut [u16],
+) -> After
     requires { ⌜ (count ≤ length (now places)) × (from ≤ length (now table)) × (length (now table) ≤ mostTable) ⌝ }
     ensures read { λ r. ⌜ r ≡ afterRead (many (λ earlier. delegationRecord spaces) count [] (now (table .entry)) from) ⌝ }
     ensures kept { λ r. ⌜ IfGood (many (λ earlier. delegationRecord spaces) count [] (now (table .entry)) from) (λ l. Standing (delegationRecord spaces) (now (table .entry)) (now (places .exit)) l) ⌝ }
