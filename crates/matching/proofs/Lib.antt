@@ -1,1 +1,2 @@
 pub mod MatchingLaws
+pub mod HeldLaws

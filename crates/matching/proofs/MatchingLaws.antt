@@ -71,7 +71,7 @@ module _ (s keys names accesses delegations : List ℕ) (held : Held s keys name
   access-within = held .accesses .within i h
 
   pub access-place : i < length accesses
-  access-place = omega (arith, held .accessRoom)
+  access-place = omega (arith, held .accessCount)
 
   module _ (r : AccessRead) (found : r ≡ accessRead (accessRecord (length keys) (rest s (getD accesses i 0)) 0)) where
     reads : (n : ℕ) × (r ≡ asAccess.Access (accessValue x) n)
@@ -158,7 +158,7 @@ module _ (s keys names accesses delegations : List ℕ) (held : Held s keys name
   delegation-within = held .delegations .within j h
 
   pub delegation-place : j < length delegations
-  delegation-place = omega (arith, held .delegationRoom)
+  delegation-place = omega (arith, held .delegationCount)
 
   module _ (r : DelegationRead) (found : r ≡ delegationRead (delegationRecord (length keys) (rest s (getD delegations j 0)) 0)) where
     read : (n : ℕ) × (r ≡ asDelegation.Delegation (delegationValue y) n)
@@ -276,3 +276,17 @@ module _ (s keys names accesses delegations : List ℕ) (held : Held s keys name
 
 pub few-spaces : (s keys names accesses delegations : List ℕ) → Held s keys names accesses delegations → length keys ≤ mostSpaces
 few-spaces s keys names accesses delegations held = omega (arith, held .good .fewSpaces, index-spaces (tableAt s .names) keys names (held .index))
+
+-- ---- numbers of records that are there, and that are not
+module _ (s keys names accesses delegations : List ℕ) (held : Held s keys names accesses delegations) (n : ℕ) where
+  pub accesses-below : n < length accesses → n < length (tableAt s .accesses)
+  accesses-below h = omega (arith, held .accessCount)
+
+  pub accesses-past : length accesses ≤ n → length (tableAt s .accesses) ≤ n
+  accesses-past h = omega (arith, held .accessCount)
+
+  pub delegations-below : n < length delegations → n < length (tableAt s .delegations)
+  delegations-below h = omega (arith, held .delegationCount)
+
+  pub delegations-past : length delegations ≤ n → length (tableAt s .delegations) ≤ n
+  delegations-past h = omega (arith, held .delegationCount)

@@ -1,6 +1,7 @@
 -- Which records are for a request, and to which keys.
+use mathlib.Core.Path.{_≡_}
 use mathlib.Core.List.{List}
-use Prim.Native.Nat.{ℕ, _≤_}
+use Prim.Native.Nat.{ℕ}
 use lib.ListN.{length}
 use Rattle.rules.specs.Tables.{Asked, Table}
 use Rattle.rules.specs.Ranges.{Good}
@@ -51,11 +52,11 @@ pub data Hands (P : Space → Key → ℕ → Type 0) : Handed → Type 0 where
   on : (S : Space) (k : Key) (d : Depth) → P S k (d .0) → Hands P (asHanded.On S k d)
   notHanded : ((S : Space) (k : Key) (d : ℕ) → P S k d → ⊥) → Hands P asHanded.Nothing
 
--- ---- a good table with its index, and where its records stand
+-- ---- a good table with its index, and where each of its access records and delegations stands
 pub record Held (s keys names accessPlaces delegationPlaces : List ℕ) : Type 0 where
   pub good : Good (tableAt s)
   pub index : Index (tableAt s .names) keys names
-  pub accessRoom : length (tableAt s .accesses) ≤ length accessPlaces
-  pub delegationRoom : length (tableAt s .delegations) ≤ length delegationPlaces
+  pub accessCount : length accessPlaces ≡ length (tableAt s .accesses)
+  pub delegationCount : length delegationPlaces ≡ length (tableAt s .delegations)
   pub accesses : Standing (accessRecord (length keys)) s accessPlaces (tableAt s .accesses)
   pub delegations : Standing (delegationRecord (length keys)) s delegationPlaces (tableAt s .delegations)

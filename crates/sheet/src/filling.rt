@@ -11,7 +11,7 @@ use records::bindings::BindingRead;
 use records::bindings::read_binding;
 
 // The key that the target of binding number `i` leads to.
-fn meaning(
+pub fn meaning(
     table: &[u8],
     keys: &[u32],
     names: &[u32],

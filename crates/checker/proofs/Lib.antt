@@ -1,0 +1,5 @@
+pub mod EnteringLaws
+pub mod WalkingLaws
+pub mod HoldingLaws
+pub mod AnswersLaws
+pub mod Theorems
