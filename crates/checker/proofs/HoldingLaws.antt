@@ -9,7 +9,7 @@ use Rattle.rules.specs.Lists.{NoneTwice}
 use Rattle.rules.specs.Ranges.{GoodNames}
 use Rattle.rules.specs.Tables.{Path, Target, toName, Asked, Request, Table}
 use Rattle.rules.specs.Names.{Means, TargetMeans}
-use Rattle.rules.specs.Access.{Meaning, Name, Writes, Chain, first, next, settingBy}
+use Rattle.rules.specs.Access.{Name, first, settingBy}
 use Rattle.rules.specs.Following.{InSheet, TargetLeads}
 use Rattle.rules.specs.Derivations.{Derivation, only, Ordered, Holds}
 use Rattle.rules.specs.Filling.{Filling}
@@ -19,6 +19,7 @@ use Rattle.rules.specs.declared.Depth.{Depth}
 use Rattle.rules.proofs.NamesLaws.{target-one}
 use Rattle.rules.proofs.AccessLaws.{chain-one, table-fixed}
 use Rattle.rules.proofs.ListedLaws.{target-only}
+use Rattle.rules.proofs.DerivationsLaws.{chain-wider}
 use Rattle.rules.proofs.SheetsLaws.{filling-leads}
 use Rattle.wire.specs.Number.{Bytes}
 use Rattle.records.specs.DerivationBytes.{Laid, readDerivation, partsOf}
@@ -34,22 +35,6 @@ use Rattle.matching.specs.declared.Given.the-variants as asGiven
 use Rattle.checker.specs.Walks.{Listed, Enters, all, unordered, EntersAll, Chained, ChainTo, WalksAll}
 use Rattle.checker.specs.Promise.{HoldsAs}
 use Rattle.checker.proofs.WalkingLaws.{gives-to, gives-none}
-
--- ---- a chain under a meaning that tells the same
-module _ (M M′ : Meaning) (t : Table) (q : Asked Space) (tells : (S : Space) (p : Path) (k : Key) → M S p k → M′ S p k) where
-  writes-as : {j d : ℕ} {k : Key} {n : Name} → Writes M t q j k n d → Writes M′ t q j k n d
-  writes-as w = record {
-    isSelf = w .isSelf;
-    ownerPath = w .ownerPath;
-    at = w .at;
-    ownerKey = w .ownerKey;
-    ownerSelf = w .ownerSelf;
-    ownerMeans = tells _ _ _ (w .ownerMeans);
-  }
-
-  chain-as : {i d : ℕ} {c : List ℕ} {n : Name} → Chain (settingBy M t q) i c n d → Chain (settingBy M′ t q) i c n d
-  chain-as (first x) = first x
-  chain-as (next {j = j} {n = n} x m w s) = next {j = j} (chain-as x) (tells (n .space) (n .path) _ m) (writes-as w) s
 
 -- ---- what was read
 module _ (s : List ℕ) (bytes : Bytes s) (parts : Parts) (v : Laid) (e : readDerivation s ≡ some v) (same : partsOf v ≡ parts) where
@@ -88,7 +73,7 @@ module _ (t : Table) (good : GoodNames (t .names)) (subject : Target) (q : Asked
     chain-leads : {d : ℕ} (h : Holds t request v d) → ChainTo t sheet q (v .access) (v .delegations) (h .key) d
     chain-leads h = record {
       last = h .last;
-      chain = chain-as (Means (only (t .names) (v .bindings))) (told t sheet) t q to-told (h .chain);
+      chain = chain-wider (Means (only (t .names) (v .bindings))) (told t sheet) t q to-told (h .chain);
       leads = to-told (h .last .space) (h .last .path) (h .key) (h .meets);
     }
 
@@ -123,7 +108,7 @@ module _ (t : Table) (good : GoodNames (t .names)) (subject : Target) (q : Asked
             key = k;
             subject = means;
             last = reached .last;
-            chain = chain-as (told t sheet) (Means (only (t .names) (v .bindings))) t q from-told (reached .chain);
+            chain = chain-wider (told t sheet) (Means (only (t .names) (v .bindings))) t q from-told (reached .chain);
             meets = from-told (reached .last .space) (reached .last .path) k (subst (λ (y : Key). told t sheet (reached .last .space) (reached .last .path) y) (λ i. record { 0 = h i }) (reached .leads));
           })
 
