@@ -38,7 +38,7 @@ use Rattle.checker.specs.Walks.{Blank}
 use Rattle.checker.specs.Promise.{ChecksGood, badRequest, notDerivation, accepted, Checks, badTable, goodTable, HoldsAs, loadedFault}
 use Rattle.checker.specs.declared.Checked.{Checked}
 use Rattle.checker.specs.declared.Checked.the-variants as checked
-use Rattle.checker.proofs.WalkingLaws.{gives-to, gives-none}
+use Rattle.matching.proofs.MatchingLaws.{gives-to, gives-none}
 
 -- ---- what the readers' answers say
 request-not : (p : Option Request) (r : RequestRead) → r ≡ requestRead p → r ≡ asRequest.Not → p ≡ none

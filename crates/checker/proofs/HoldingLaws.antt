@@ -34,7 +34,7 @@ use Rattle.matching.specs.declared.Given.{Given}
 use Rattle.matching.specs.declared.Given.the-variants as asGiven
 use Rattle.checker.specs.Walks.{Listed, Enters, all, unordered, EntersAll, Chained, ChainTo, WalksAll}
 use Rattle.checker.specs.Promise.{HoldsAs}
-use Rattle.checker.proofs.WalkingLaws.{gives-to, gives-none}
+use Rattle.matching.proofs.MatchingLaws.{gives-to, gives-none}
 
 -- ---- what was read
 module _ (s : List ℕ) (bytes : Bytes s) (parts : Parts) (v : Laid) (e : readDerivation s ≡ some v) (same : partsOf v ≡ parts) where

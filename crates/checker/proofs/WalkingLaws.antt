@@ -30,35 +30,12 @@ use Rattle.table.proofs.FindingLaws.{space-here}
 use Rattle.sheet.proofs.FindsLaws.{space-has, leads-one}
 use Rattle.sheet.proofs.MeaningLaws.{index-spaces}
 use Rattle.matching.specs.Matching.{told, GivesTo, HandsOn, Gives, to, notGiven, Hands, on, notHanded, Held}
+use Rattle.matching.proofs.MatchingLaws.{gives-to, gives-none, hands-on, hands-none}
 use Rattle.matching.specs.declared.Given.{Given}
 use Rattle.matching.specs.declared.Given.the-variants as asGiven
 use Rattle.matching.specs.declared.Handed.{Handed}
 use Rattle.matching.specs.declared.Handed.the-variants as asHanded
 use Rattle.checker.specs.Walks.{Chained, ChainTo, WalksAll, StepTo, Numbered, GoesOn}
-
--- ---- what was found
-pub gives-to : {P : Key → ℕ → Type 0} {r : Given} {k : Key} {d : Depth} → Gives P r → r ≡ asGiven.To k d → P k (d .0)
-gives-to {P} {k = k} {d = d} (to m b w) e =
-    let p : m ≡ k = cc in
-    let q : b ≡ d = cc in
-    subst (λ (x : Key). P x (d .0)) p (subst (λ (x : Depth). P m (x .0)) q w)
-gives-to (notGiven f) e = let z : _≡_ {A = ℕ} 0 1 = cc in absurd (omega arith)
-
-pub gives-none : {P : Key → ℕ → Type 0} {r : Given} → Gives P r → r ≡ asGiven.Nothing → (k : Key) (d : ℕ) → P k d → ⊥
-gives-none (to m b w) e k d p = let z : _≡_ {A = ℕ} 0 1 = cc in absurd (omega arith)
-gives-none (notGiven f) e k d p = f k d p
-
-hands-on : {P : Space → Key → ℕ → Type 0} {r : Handed} {S : Space} {k : Key} {d : Depth} → Hands P r → r ≡ asHanded.On S k d → P S k (d .0)
-hands-on {P} {S = S} {k = k} {d = d} (on T m b w) e =
-    let o : T ≡ S = cc in
-    let p : m ≡ k = cc in
-    let q : b ≡ d = cc in
-    subst (λ (x : Space). P x k (d .0)) o (subst (λ (x : Key). P T x (d .0)) p (subst (λ (x : Depth). P T m (x .0)) q w))
-hands-on (notHanded f) e = let z : _≡_ {A = ℕ} 0 1 = cc in absurd (omega arith)
-
-hands-none : {P : Space → Key → ℕ → Type 0} {r : Handed} → Hands P r → r ≡ asHanded.Nothing → (S : Space) (k : Key) (d : ℕ) → P S k d → ⊥
-hands-none (on T m b w) e S k d p = let z : _≡_ {A = ℕ} 0 1 = cc in absurd (omega arith)
-hands-none (notHanded f) e S k d p = f S k d p
 
 -- ---- one step
 module _ (s keys names accesses delegations : List ℕ) (held : Held s keys names accesses delegations) (sheet : List ℕ) (q : Asked Space) (j : ℕ) (r : Handed) (found : Hands (HandsOn (tableAt s) sheet q j) r) (holder : Key) (a : ℕ) where

@@ -11,6 +11,7 @@ use Rattle.rules.specs.Names.{IsSelf}
 use Rattle.rules.specs.Following.{InSheet, NameLeads}
 use Rattle.rules.specs.declared.Key.{Key}
 use Rattle.rules.specs.declared.Space.{Space}
+use Rattle.rules.specs.declared.Depth.{Depth}
 use Rattle.rules.proofs.ListsLaws.{at-one}
 use Rattle.rules.proofs.NamesLaws.{self-one}
 use Rattle.records.specs.Parsed.{got, Reader}
@@ -42,6 +43,30 @@ use Rattle.matching.specs.declared.Given.{Given}
 use Rattle.matching.specs.declared.Given.the-variants as asGiven
 use Rattle.matching.specs.declared.Handed.{Handed}
 use Rattle.matching.specs.declared.Handed.the-variants as asHanded
+
+-- ---- what was found
+pub gives-to : {P : Key → ℕ → Type 0} {r : Given} {k : Key} {d : Depth} → Gives P r → r ≡ asGiven.To k d → P k (d .0)
+gives-to {P} {k = k} {d = d} (to m b w) e =
+    let p : m ≡ k = cc in
+    let q : b ≡ d = cc in
+    subst (λ (x : Key). P x (d .0)) p (subst (λ (x : Depth). P m (x .0)) q w)
+gives-to (notGiven f) e = let z : _≡_ {A = ℕ} 0 1 = cc in absurd (omega arith)
+
+pub gives-none : {P : Key → ℕ → Type 0} {r : Given} → Gives P r → r ≡ asGiven.Nothing → (k : Key) (d : ℕ) → P k d → ⊥
+gives-none (to m b w) e k d p = let z : _≡_ {A = ℕ} 0 1 = cc in absurd (omega arith)
+gives-none (notGiven f) e k d p = f k d p
+
+pub hands-on : {P : Space → Key → ℕ → Type 0} {r : Handed} {S : Space} {k : Key} {d : Depth} → Hands P r → r ≡ asHanded.On S k d → P S k (d .0)
+hands-on {P} {S = S} {k = k} {d = d} (on T m b w) e =
+    let o : T ≡ S = cc in
+    let p : m ≡ k = cc in
+    let q : b ≡ d = cc in
+    subst (λ (x : Space). P x k (d .0)) o (subst (λ (x : Key). P T x (d .0)) p (subst (λ (x : Depth). P T m (x .0)) q w))
+hands-on (notHanded f) e = let z : _≡_ {A = ℕ} 0 1 = cc in absurd (omega arith)
+
+pub hands-none : {P : Space → Key → ℕ → Type 0} {r : Handed} → Hands P r → r ≡ asHanded.Nothing → (S : Space) (k : Key) (d : ℕ) → P S k d → ⊥
+hands-none (on T m b w) e S k d p = let z : _≡_ {A = ℕ} 0 1 = cc in absurd (omega arith)
+hands-none (notHanded f) e S k d p = f S k d p
 
 -- ---- a record by its number
 pub stands-back : {A : Type 0} (P : Reader A) → Walks P → (s places : List ℕ) (l : List A) → Standing P s places l → (i : ℕ) (x : A) → At l i x

@@ -70,7 +70,7 @@ pub space-has : {spaces : List Key} {k : Key} {r : SpaceFound} (S : Space) → F
 space-has {spaces} {k} S (has T w) e = let q : T ≡ S = cc in subst (λ (U : Space). IsSelf spaces U k) q w
 space-has S (nobody f) e = let z : _≡_ {A = ℕ} 0 1 = cc in absurd (omega arith)
 
-space-none : {spaces : List Key} {k : Key} {r : SpaceFound} → FindsSpace spaces k r → r ≡ space.None → (S : Space) → IsSelf spaces S k → ⊥
+pub space-none : {spaces : List Key} {k : Key} {r : SpaceFound} → FindsSpace spaces k r → r ≡ space.None → (S : Space) → IsSelf spaces S k → ⊥
 space-none (has T w) e = let z : _≡_ {A = ℕ} 0 1 = cc in absurd (omega arith)
 space-none (nobody f) e = f
 

@@ -1,0 +1,2 @@
+// The decision: whether a request is granted, at the greatest depth, with a derivation.
+pub mod gathering;

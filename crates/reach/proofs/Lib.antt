@@ -1,0 +1,5 @@
+-- Laws of rounds over edges.
+pub mod StepLaws
+pub mod RoundsLaws
+pub mod GraphsLaws
+pub mod TracingLaws

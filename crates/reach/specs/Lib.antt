@@ -1,0 +1,4 @@
+-- Nodes and edges that are numbers, and the greatest depths.
+pub mod Reached
+pub mod Rounds
+pub mod Graphs
