@@ -2,6 +2,7 @@
 
 use crate::answer::{Answer, Fault, GRANTED, NOT_A_DERIVATION, REQUEST};
 use crate::cases::{Case, Kind};
+use crate::names::Names;
 use crate::{check, decide, decide_by_keys, translate};
 use crate::{read_derivation, read_key_request, read_key_table, read_request, read_table};
 
@@ -14,6 +15,7 @@ pub fn answer_line(case: &Case) -> String {
         Kind::ReadDerivation => line_of_derivation(part(0)),
         Kind::ReadKeyTable => line_of_key_table(part(0)),
         Kind::ReadKeyRequest => line_of_key_request(part(0)),
+        Kind::NameSheet => line_of_sheet(part(0)),
         Kind::Decide => line_of_decision(part(0), part(1), part(2), part(3)),
         Kind::Check => line_of_answer(check(part(0), part(1), part(2))),
         Kind::Translate => line_of_translation(part(0), part(1)),
@@ -86,6 +88,19 @@ fn line_of_key_request(bytes: &[u8]) -> String {
         Some(_) => GRANTED.to_string(),
         None => REQUEST.to_string(),
     }
+}
+
+/// "one per binding: the key its target means, or 0."
+fn line_of_sheet(bytes: &[u8]) -> String {
+    let table = match read_table(bytes) {
+        Ok(table) => table,
+        Err(fault) => return line_of_fault(fault),
+    };
+    let mut line = GRANTED.to_string();
+    for entry in Names::of(&table).sheet() {
+        line.push_str(&format!(" {entry}"));
+    }
+    line
 }
 
 fn line_of_decision(table: &[u8], request: &[u8], sheet: &[u8], derivation: &[u8]) -> String {

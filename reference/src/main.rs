@@ -5,7 +5,7 @@ use std::io::{self, BufWriter, Read, Write};
 use std::process::ExitCode;
 
 use reference::answer::word;
-use reference::cases::{kinds, make_case, read_cases, write_case, Case, Kind};
+use reference::cases::{kinds, make_case, read_cases, write_case, Kind};
 use reference::compare::compare;
 use reference::line::answer_line;
 use reference::read_table;
@@ -14,13 +14,15 @@ use reference::show::show;
 
 const USAGE: &str = "usage:
   reference cases SEED COUNT [KINDS] > CASES   make cases (KINDS: a comma list, like 1,10)
-  reference rows reading > CASES               document 01's rows and its limits at their edges
+  reference rows GROUP > CASES                 document 01's rows and its limits at their edges
   reference answers < CASES > LINES            the answer line of each case
   reference compare CASES LINES                compare LINES with our own answers
   reference show < TABLE                       a table in readable columns
 kinds:
   1 read table, 2 read request, 3 read derivation, 4 read key table, 5 read key request,
-  10 decide, 11 check, 12 translate, 13 decide by keys
+  6 name sheet, 10 decide, 11 check, 12 translate, 13 decide by keys
+groups:
+  reading, names, checking, deciding, translating
 ";
 
 /// Wrong words on the command line.
@@ -55,7 +57,7 @@ fn run(words: &[&str]) -> Result<ExitCode, Failure> {
     match words {
         ["cases", seed, count] => make_cases(seed, count, None),
         ["cases", seed, count, kinds] => make_cases(seed, count, Some(kinds)),
-        ["rows", "reading"] => write_rows(&rows::reading()),
+        ["rows", group] => write_rows(group),
         ["answers"] => answer_cases(),
         ["compare", cases, lines] => compare_files(cases, lines),
         ["show"] => show_table(),
@@ -84,9 +86,11 @@ fn make_cases(seed: &str, count: &str, kinds: Option<&str>) -> Result<ExitCode, 
     Ok(ExitCode::SUCCESS)
 }
 
-fn write_rows(rows: &[Case]) -> Result<ExitCode, Failure> {
+fn write_rows(group: &str) -> Result<ExitCode, Failure> {
+    let rows = rows::group(group)
+        .ok_or_else(|| wrong_use(&format!("reference: `{group}` is no group of rows\n")))?;
     let mut bytes = Vec::new();
-    for case in rows {
+    for case in &rows {
         write_case(&mut bytes, case);
     }
     io::stdout().lock().write_all(&bytes)?;

@@ -136,7 +136,7 @@ fn broken_case_files() {
     assert!(read_cases(&[3, 1, 0, 0, 0, 7]).is_ok());
     let broken: [&[u8]; 6] = [
         &[0],
-        &[6, 0, 0, 0, 0],
+        &[7, 0, 0, 0, 0],
         &[3, 0, 0, 0],
         &[3, 2, 0, 0, 0, 7],
         &[3, 0xFF, 0xFF, 0xFF, 0xFF],

@@ -251,7 +251,7 @@ fn the_cases_of_a_seed() {
     for index in 0..500 {
         write_case(&mut bytes, &make_case(1, index, &kinds::ALL));
     }
-    assert_eq!(hash_of(&bytes), "1d9c338a");
+    assert_eq!(hash_of(&bytes), "f30bf3a9");
     let read = read_cases(&bytes).expect("it is a case file");
     assert_eq!(read.len(), 500);
     let mut again = Vec::new();

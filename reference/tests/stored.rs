@@ -18,8 +18,10 @@ fn stored(name: &str) -> Vec<u8> {
 #[test]
 fn the_stored_cases_are_the_rows() {
     let mut bytes = Vec::new();
-    for case in rows::reading() {
-        write_case(&mut bytes, &case);
+    for group in [rows::reading(), rows::names(), rows::checking()] {
+        for case in &group {
+            write_case(&mut bytes, case);
+        }
     }
     assert!(stored("stdin") == bytes, "make crates/vectors/stdin again");
 }

@@ -1,2 +1,3 @@
 pub mod GatheringLaws
 pub mod DrawingLaws
+pub mod SettlingLaws

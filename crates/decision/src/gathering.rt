@@ -7,14 +7,13 @@ ghost use Rattle.table.specs.ReadTable.{tableAt};
 ghost use Rattle.table.specs.Finding.{keysOf};
 ghost use Rattle.matching.specs.Matching.{Held, askedOf};
 ghost use Rattle.decision.specs.Gathering.{FindsNode, GivenSo, DrawnSo, Room};
-
-use rules::Key;
-use rules::Space;
-use records::fields::Use;
 use matching::Given;
 use matching::Handed;
 use matching::match_access;
 use matching::match_delegation;
+use records::fields::Use;
+use rules::Key;
+use rules::Space;
 use table::finding::SpaceFound;
 use table::finding::find_space;
 
@@ -41,13 +40,36 @@ pub fn find_node(keys: &[u32], subject: Key, key: Key) -> NodeFound
 }
 
 // One more access record: the node that it gives access keeps the greatest code, and the record's number.
-fn give_one(table: &[u8], keys: &[u32], names: &[u32], accesses: &[u16], delegations: &[u16], sheet: &[u32], owner: Space, wanted: Use, subject: Key, i: usize, best: &mut [u8], roots: &mut [u16])
+fn give_one(
+    table: &[u8],
+    keys: &[u32],
+    names: &[u32],
+    accesses: &[u16],
+    delegations: &[u16],
+    sheet: &[u32],
+    owner: Space,
+    wanted: Use,
+    subject: Key,
+    i: usize,
+    best: &mut [u8],
+    roots: &mut [u16],
+)
     requires { ⌜ Held (now table) (now keys) (now names) (now accesses) (now delegations) × (length (now names) ≤ length (now sheet)) × (i < length (now accesses)) × (length (now accesses) ≤ mostAccesses)
         × (length (now best) ≡ suc (length (now keys))) × (length (now roots) ≡ suc (length (now keys)))
         × GivenSo (tableAt (now table)) (now sheet) (askedOf owner wanted) subject i (now best) (now roots) ⌝ }
     ensures { λ _. ⌜ GivenSo (tableAt (now (table .entry))) (now (sheet .entry)) (askedOf owner wanted) subject (i + 1) (now (best .exit)) (now (roots .exit)) ⌝ }
 {
-    let given = match_access(table, keys, names, accesses, delegations, sheet, owner, wanted, i);
+    let given = match_access(
+        table,
+        keys,
+        names,
+        accesses,
+        delegations,
+        sheet,
+        owner,
+        wanted,
+        i,
+    );
     let Given::To(key, depth) = given else {
         return;
     };
@@ -64,7 +86,19 @@ fn give_one(table: &[u8], keys: &[u32], names: &[u32], accesses: &[u16], delegat
 }
 
 // The codes that the access records give.
-pub fn give_all(table: &[u8], keys: &[u32], names: &[u32], accesses: &[u16], delegations: &[u16], sheet: &[u32], owner: Space, wanted: Use, subject: Key, best: &mut [u8], roots: &mut [u16])
+pub fn give_all(
+    table: &[u8],
+    keys: &[u32],
+    names: &[u32],
+    accesses: &[u16],
+    delegations: &[u16],
+    sheet: &[u32],
+    owner: Space,
+    wanted: Use,
+    subject: Key,
+    best: &mut [u8],
+    roots: &mut [u16],
+)
     requires { ⌜ Held (now table) (now keys) (now names) (now accesses) (now delegations) × (length (now names) ≤ length (now sheet)) × (length (now accesses) ≤ mostAccesses)
         × (length (now best) ≡ suc (length (now keys))) × (length (now roots) ≡ suc (length (now keys)))
         × GivenSo (tableAt (now table)) (now sheet) (askedOf owner wanted) subject 0 (now best) (now roots) ⌝ }
@@ -72,20 +106,59 @@ pub fn give_all(table: &[u8], keys: &[u32], names: &[u32], accesses: &[u16], del
 {
     let mut i = 0;
     while i < accesses.len() {
-        give_one(table, keys, names, accesses, delegations, sheet, owner, wanted, subject, i, best, roots);
+        give_one(
+            table,
+            keys,
+            names,
+            accesses,
+            delegations,
+            sheet,
+            owner,
+            wanted,
+            subject,
+            i,
+            best,
+            roots,
+        );
         i = i + 1;
     }
 }
 
 // One more delegation: an edge behind the `m` that there are, if it is between two nodes; answers how many there are then.
-fn draw_one(table: &[u8], keys: &[u32], names: &[u32], accesses: &[u16], delegations: &[u16], sheet: &[u32], owner: Space, wanted: Use, subject: Key, j: usize, from: &mut [u16], to: &mut [u16], depths: &mut [u8], numbers: &mut [u16], m: usize) -> usize
+fn draw_one(
+    table: &[u8],
+    keys: &[u32],
+    names: &[u32],
+    accesses: &[u16],
+    delegations: &[u16],
+    sheet: &[u32],
+    owner: Space,
+    wanted: Use,
+    subject: Key,
+    j: usize,
+    from: &mut [u16],
+    to: &mut [u16],
+    depths: &mut [u8],
+    numbers: &mut [u16],
+    m: usize,
+) -> usize
     requires { ⌜ Held (now table) (now keys) (now names) (now accesses) (now delegations) × (length (now names) ≤ length (now sheet)) × (owner .0 < length (now keys)) × (j < length (now delegations))
         × (length (now delegations) ≤ mostDelegations) × Room (now from) (now to) (now depths) (now numbers) × (m ≤ j)
         × DrawnSo (tableAt (now table)) (now sheet) (askedOf owner wanted) subject j (take m (now from)) (take m (now to)) (take m (now depths)) (take m (now numbers)) ⌝ }
     ensures drawn { λ r. ⌜ DrawnSo (tableAt (now (table .entry))) (now (sheet .entry)) (askedOf owner wanted) subject (j + 1) (take r (now (from .exit))) (take r (now (to .exit))) (take r (now (depths .exit))) (take r (now (numbers .exit))) ⌝ }
     ensures few { λ r. ⌜ r ≤ j + 1 ⌝ }
 {
-    let handed = match_delegation(table, keys, names, accesses, delegations, sheet, owner, wanted, j);
+    let handed = match_delegation(
+        table,
+        keys,
+        names,
+        accesses,
+        delegations,
+        sheet,
+        owner,
+        wanted,
+        j,
+    );
     let Handed::On(writer, key, depth) = handed else {
         return m;
     };
@@ -102,7 +175,21 @@ fn draw_one(table: &[u8], keys: &[u32], names: &[u32], accesses: &[u16], delegat
 }
 
 // The edges that the delegations are; answers how many.
-pub fn draw_all(table: &[u8], keys: &[u32], names: &[u32], accesses: &[u16], delegations: &[u16], sheet: &[u32], owner: Space, wanted: Use, subject: Key, from: &mut [u16], to: &mut [u16], depths: &mut [u8], numbers: &mut [u16]) -> usize
+pub fn draw_all(
+    table: &[u8],
+    keys: &[u32],
+    names: &[u32],
+    accesses: &[u16],
+    delegations: &[u16],
+    sheet: &[u32],
+    owner: Space,
+    wanted: Use,
+    subject: Key,
+    from: &mut [u16],
+    to: &mut [u16],
+    depths: &mut [u8],
+    numbers: &mut [u16],
+) -> usize
     requires { ⌜ Held (now table) (now keys) (now names) (now accesses) (now delegations) × (length (now names) ≤ length (now sheet)) × (owner .0 < length (now keys))
         × (length (now delegations) ≤ mostDelegations) × Room (now from) (now to) (now depths) (now numbers) ⌝ }
     ensures drawn { λ r. ⌜ DrawnSo (tableAt (now (table .entry))) (now (sheet .entry)) (askedOf owner wanted) subject (length (now (delegations .entry))) (take r (now (from .exit))) (take r (now (to .exit))) (take r (now (depths .exit))) (take r (now (numbers .exit))) ⌝ }
@@ -111,7 +198,23 @@ pub fn draw_all(table: &[u8], keys: &[u32], names: &[u32], accesses: &[u16], del
     let mut m = 0;
     let mut j = 0;
     while j < delegations.len() {
-        m = draw_one(table, keys, names, accesses, delegations, sheet, owner, wanted, subject, j, from, to, depths, numbers, m);
+        m = draw_one(
+            table,
+            keys,
+            names,
+            accesses,
+            delegations,
+            sheet,
+            owner,
+            wanted,
+            subject,
+            j,
+            from,
+            to,
+            depths,
+            numbers,
+            m,
+        );
         j = j + 1;
     }
     m

@@ -78,7 +78,18 @@ pub struct Trail {
 }
 
 // Goes from a node that has a code back along the edges that gave the codes; their numbers stand at the end of `chain`, the first edge's first.
-pub fn trace(from: &[u16], to: &[u16], depths: &[u8], numbers: &[u16], start: &[u8], best: &[u8], roots: &[u16], by: &[u16], node: usize, chain: &mut [u16]) -> Trail
+pub fn trace(
+    from: &[u16],
+    to: &[u16],
+    depths: &[u8],
+    numbers: &[u16],
+    start: &[u8],
+    best: &[u8],
+    roots: &[u16],
+    by: &[u16],
+    node: usize,
+    chain: &mut [u16],
+) -> Trail
     requires { ⌜ Edges (now from) (now to) (now depths) (length (now best)) × Reached (now from) (now to) (now depths) (now start) (now best) (now by) × (0 < entry (now best) node)
         × (length (now numbers) ≡ length (now from)) × (length (now roots) ≡ length (now best)) × (length (now chain) ≡ top) × (length (now best) ≤ 65536) ⌝ }
     ensures { λ r. ⌜ Traced (now (from .entry)) (now (numbers .entry)) (now (start .entry)) (now (best .entry)) (now (roots .entry)) (now (by .entry)) node (r .access) (drop (r .first) (now (chain .exit))) × (r .first ≤ top) ⌝ }

@@ -162,6 +162,7 @@ module _ (t : NameTable) (good : GoodNames t) (part rest order : List ℕ) (n : 
   whole-filled before e = record {
     exact = rest-exact t good (part ++ rest) (take n order) whole-filling whole-rest;
     past = ap (λ (m : ℕ). drop m (part ++ rest)) (sym (l .size)) ∙ drop-append-seam part rest ∙ e;
+    few = omega (arith, l .counted, l .size);
     filling = whole-filling;
     atRest = whole-rest;
   }

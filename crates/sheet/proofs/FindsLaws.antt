@@ -74,11 +74,11 @@ pub space-none : {spaces : List Key} {k : Key} {r : SpaceFound} → FindsSpace s
 space-none (has T w) e = let z : _≡_ {A = ℕ} 0 1 = cc in absurd (omega arith)
 space-none (nobody f) e = f
 
-binding-opens : {bindings : List Binding} {T : Space} {b : ℕ} {r : BindingFound} (i : ℕ) → FindsBinding bindings T b r → r ≡ binding.Binding i → (g : Target) × Opens bindings T b i g
+pub binding-opens : {bindings : List Binding} {T : Space} {b : ℕ} {r : BindingFound} (i : ℕ) → FindsBinding bindings T b r → r ≡ binding.Binding i → (g : Target) × Opens bindings T b i g
 binding-opens {bindings} {T} {b} i (opens j g o) e = let q : j ≡ i = cc in (g, subst (λ (n : ℕ). Opens bindings T b n g) q o)
 binding-opens i (unbound f) e = let z : _≡_ {A = ℕ} 0 1 = cc in absurd (omega arith)
 
-binding-none : {bindings : List Binding} {T : Space} {b : ℕ} {r : BindingFound} → FindsBinding bindings T b r → r ≡ binding.None → (i : ℕ) (g : Target) → Opens bindings T b i g → ⊥
+pub binding-none : {bindings : List Binding} {T : Space} {b : ℕ} {r : BindingFound} → FindsBinding bindings T b r → r ≡ binding.None → (i : ℕ) (g : Target) → Opens bindings T b i g → ⊥
 binding-none (opens j g o) e = let z : _≡_ {A = ℕ} 0 1 = cc in absurd (omega arith)
 binding-none (unbound f) e = f
 
@@ -148,12 +148,18 @@ module _ (t : NameTable) (keys names sheet : List ℕ) (index : Index t keys nam
           goes-on h rest z a w = on-from-there h a (subst (λ (y : Path). Finds (PathLeads t (InSheet t sheet) (record { 0 = entry sheet i }) (pathOf y)) a) z w)
 
 -- ---- a whole name
+-- A space has the key that stands at its number.
+pub own-key : (t : NameTable) (keys names : List ℕ) → Index t keys names → (S : Space) → S .0 < length keys → IsSelf (t .spaces) S (record { 0 = getD keys (S .0) 0 })
+own-key t keys names index S h =
+    let k : Key = record { 0 = getD keys (S .0) 0 } in
+    subst (λ (l : List Key). IsSelf l S k) (index .spaces) (space-has S (space-here keys k (S .0) h refl) refl)
+
 pub name-found : (t : NameTable) (keys names sheet : List ℕ) → Index t keys names → (S : Space) (p : List ℕ) → S .0 < length keys → (r : Followed)
     → Finds (PathLeads t (InSheet t sheet) (record { 0 = getD keys (S .0) 0 }) p) r → Finds (NameLeads t (InSheet t sheet) S p) r
 name-found t keys names sheet index S p h r w = go r w
   where
     home : IsSelf (t .spaces) S (record { 0 = getD keys (S .0) 0 })
-    home = let k : Key = record { 0 = getD keys (S .0) 0 } in subst (λ (l : List Key). IsSelf l S k) (index .spaces) (space-has S (space-here keys k (S .0) h refl) refl)
+    home = own-key t keys names index S h
 
     go : (r : Followed) → Finds (PathLeads t (InSheet t sheet) (record { 0 = getD keys (S .0) 0 }) p) r → Finds (NameLeads t (InSheet t sheet) S p) r
     go _ (key m v) = key m (record { start = record { 0 = getD keys (S .0) 0 }; isSelf = home; leads = v })

@@ -98,8 +98,8 @@ module _ (t : NameTable) (s keys names places : List ℕ) (known : Known t s key
           subst (λ (m : TargetValue). FittingTarget (length keys) m) (sym (is-value (x .0) (x .1)))
           (target-fits (length keys) (x .0 .target) (subst (λ (m : ℕ). GoodTarget m (x .0 .target)) (index-spaces t keys names (known .index)) g))
 
+      pub target-read : (x : Binding) → At (t .bindings) i x → targetOf (v .target) ≡ x .target
+      target-read x a = ap targetOf (is-value x a) ∙ target-back (length (t .spaces)) (x .target) (known .index .good .bindings i x a .target)
+
       pub leads-so : (sheet : List ℕ) (a : Followed) → Finds (TargetLeads t (InSheet t sheet) (targetOf (v .target))) a → Leading t sheet i a
-      leads-so sheet a w = record { finds = λ x b. subst (λ (g : Target). Finds (TargetLeads t (InSheet t sheet) g) a) (back x b) w }
-        where
-          back : (x : Binding) → At (t .bindings) i x → targetOf (v .target) ≡ x .target
-          back x b = ap targetOf (is-value x b) ∙ target-back (length (t .spaces)) (x .target) (known .index .good .bindings i x b .target)
+      leads-so sheet a w = record { finds = λ x b. subst (λ (g : Target). Finds (TargetLeads t (InSheet t sheet) g) a) (target-read x b) w }

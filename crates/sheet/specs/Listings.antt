@@ -55,5 +55,6 @@ pub record Round (t : NameTable) (listed : ℕ) (sheet order : List ℕ) (i n : 
 pub record Filled (t : NameTable) (before sheet order : List ℕ) (n : ℕ) : Type 0 where
   pub exact : Exact t sheet
   pub past : drop (length (t .bindings)) sheet ≡ drop (length (t .bindings)) before
+  pub few : n ≤ length (t .bindings)
   pub filling : Filling t sheet (take n order)
   pub atRest : AtRest t sheet

@@ -22,7 +22,7 @@ pub enum Followed {
 }
 
 // The path without its first name.
-fn rest_of(path: Path) -> Path
+pub fn rest_of(path: Path) -> Path
     requires { ⌜ 0 < path .length ⌝ }
     ensures { λ r. ⌜ r ≡ restOf path ⌝ }
 {

@@ -1,4 +1,6 @@
 -- What the answer lines say.
 pub mod Answers
+pub mod Checks
 pub mod Lines
 pub mod Parts
+pub mod Sheets

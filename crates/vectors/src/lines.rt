@@ -6,6 +6,7 @@ pub enum Line {
     One(usize),
     Two(usize, usize),
     Three(usize, usize, usize),
+    Four(usize, usize, usize, usize),
     Five(usize, usize, usize, usize, usize),
 }
 
@@ -35,6 +36,12 @@ fn write_numbers(line: Line) {
             write_next(second);
             write_next(third);
         }
+        Line::Four(first, second, third, fourth) => {
+            write_first(first);
+            write_next(second);
+            write_next(third);
+            write_next(fourth);
+        }
         Line::Five(first, second, third, fourth, fifth) => {
             write_first(first);
             write_next(second);
@@ -48,5 +55,21 @@ fn write_numbers(line: Line) {
 // Writes the line.
 pub fn write_line(line: Line) {
     write_numbers(line);
+    io::write_all(STDOUT_FILENO, b"\n");
+}
+
+// Writes further numbers of a line.
+fn write_all_next(numbers: &[u32]) {
+    let mut i = 0;
+    while i < numbers.len() {
+        write_next(numbers[i] as usize);
+        i = i + 1;
+    }
+}
+
+// Writes a line of a number and a row of numbers.
+pub fn write_row(first: usize, numbers: &[u32]) {
+    write_first(first);
+    write_all_next(numbers);
     io::write_all(STDOUT_FILENO, b"\n");
 }

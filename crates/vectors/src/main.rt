@@ -3,11 +3,13 @@ use crate::input::stopped;
 use libc::STDIN_FILENO;
 
 mod answers;
+mod checks;
 mod derivations;
 mod input;
 mod key_requests;
 mod lines;
 mod requests;
+mod sheets;
 mod tables;
 
 // Answers a case of this kind, and says whether to go on.
@@ -17,6 +19,8 @@ fn answer_case(kind: u8) -> bool {
         2 => requests::answer(),
         3 => derivations::answer(),
         5 => key_requests::answer(),
+        6 => sheets::answer(),
+        11 => checks::answer(),
         _ => stopped(b"no such kind"),
     }
 }

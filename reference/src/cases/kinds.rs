@@ -8,6 +8,7 @@ pub enum Kind {
     ReadDerivation,
     ReadKeyTable,
     ReadKeyRequest,
+    NameSheet,
     Decide,
     Check,
     Translate,
@@ -15,12 +16,13 @@ pub enum Kind {
 }
 
 /// Every kind, in the order of their numbers.
-pub const ALL: [Kind; 9] = [
+pub const ALL: [Kind; 10] = [
     Kind::ReadTable,
     Kind::ReadRequest,
     Kind::ReadDerivation,
     Kind::ReadKeyTable,
     Kind::ReadKeyRequest,
+    Kind::NameSheet,
     Kind::Decide,
     Kind::Check,
     Kind::Translate,
@@ -41,6 +43,7 @@ impl Kind {
             Kind::ReadDerivation => 3,
             Kind::ReadKeyTable => 4,
             Kind::ReadKeyRequest => 5,
+            Kind::NameSheet => 6,
             Kind::Decide => 10,
             Kind::Check => 11,
             Kind::Translate => 12,
@@ -52,7 +55,7 @@ impl Kind {
     pub fn parts(self) -> usize {
         match self {
             Kind::ReadTable | Kind::ReadDerivation => 1,
-            Kind::ReadKeyTable | Kind::ReadKeyRequest => 1,
+            Kind::ReadKeyTable | Kind::ReadKeyRequest | Kind::NameSheet => 1,
             Kind::ReadRequest | Kind::Translate | Kind::DecideByKeys => 2,
             Kind::Check => 3,
             Kind::Decide => 4,
@@ -62,13 +65,14 @@ impl Kind {
     /// How many of a hundred cases of the mixture are of this kind.
     pub fn weight(self) -> u64 {
         match self {
-            Kind::ReadTable => 14,
+            Kind::ReadTable => 12,
             Kind::ReadRequest => 8,
             Kind::ReadDerivation => 8,
             Kind::ReadKeyTable => 8,
             Kind::ReadKeyRequest => 4,
-            Kind::Decide => 24,
-            Kind::Check => 18,
+            Kind::NameSheet => 6,
+            Kind::Decide => 22,
+            Kind::Check => 16,
             Kind::Translate => 6,
             Kind::DecideByKeys => 10,
         }
@@ -82,6 +86,7 @@ impl Kind {
             Kind::ReadDerivation => "read derivation",
             Kind::ReadKeyTable => "read key table",
             Kind::ReadKeyRequest => "read key request",
+            Kind::NameSheet => "name sheet",
             Kind::Decide => "decide",
             Kind::Check => "check",
             Kind::Translate => "translate",

@@ -33,6 +33,7 @@ pub fn make_case(seed: u64, index: u64, kinds: &[Kind]) -> Case {
         Kind::ReadDerivation => vec![derivations::any_derivation(&mut random)],
         Kind::ReadKeyTable => vec![keytables::any_key_table(&mut random)],
         Kind::ReadKeyRequest => vec![keytables::any_key_request(&mut random)],
+        Kind::NameSheet => vec![tables::mostly_good(&mut random)],
         Kind::Decide => requests::decide_parts(&mut random),
         Kind::Check => derivations::check_parts(&mut random),
         Kind::Translate => tables::translate_parts(&mut random),

@@ -17,13 +17,18 @@ pub fn any_table(random: &mut Random) -> Vec<u8> {
     }
 }
 
-/// A table and a buffer for its key table.
-pub fn translate_parts(random: &mut Random) -> Vec<Vec<u8>> {
-    let table = if random.chance(85) {
+/// A table, now and then damaged.
+pub fn mostly_good(random: &mut Random) -> Vec<u8> {
+    if random.chance(85) {
         write_table(&good_scene(random).table)
     } else {
         damaged_table(random)
-    };
+    }
+}
+
+/// A table and a buffer for its key table.
+pub fn translate_parts(random: &mut Random) -> Vec<Vec<u8>> {
+    let table = mostly_good(random);
     vec![table, buffers::key_table(random)]
 }
 

@@ -1,10 +1,9 @@
 //! Derivations, by their form alone.
 
-use super::{changes, derivation, numbers, stretched, truncations, wrong_forms};
+use super::specimen::{P2, P3, P4};
+use super::{changes, derivation, numbers, stretched, truncations, wrong_forms, MOST};
 use crate::cases::Case;
 use crate::limits::DERIVATION_BYTES;
-
-const MOST: u32 = u32::MAX;
 
 /// The rows of derivations.
 pub fn rows() -> Vec<Case> {
@@ -20,11 +19,7 @@ pub fn rows() -> Vec<Case> {
 
 /// The derivations of the specimen's rows P2, P3 and P4.
 fn of_the_specimen() -> Vec<Vec<u8>> {
-    vec![
-        vec![0x01, 0x00, 0x01, 0x00],
-        vec![0x04, 0x00, 0x01, 0x03, 0x05, 0x02, 0x00, 0x00],
-        vec![0x03, 0x00, 0x01, 0x03, 0x02, 0x00, 0x00],
-    ]
+    vec![P2.to_vec(), P3.to_vec(), P4.to_vec()]
 }
 
 /// Each number at its edges.

@@ -1,11 +1,9 @@
 //! Requests against T and other tables, and key requests.
 
 use super::specimen::{EMPTY, T};
-use super::{changes, key_request, numbers, request, stretched, truncations, wrong_forms};
+use super::{changes, key_request, numbers, request, stretched, truncations, wrong_forms, MOST};
 use crate::cases::Case;
 use crate::limits::{REQUEST_BYTES, TABLE_BYTES};
-
-const MOST: u32 = u32::MAX;
 
 /// The rows of requests and key requests.
 pub fn rows() -> Vec<Case> {

@@ -1,12 +1,11 @@
 //! Tables at their limits.
 
 use super::specimen::T;
-use super::{not_shortest, numbers, stretched, table, truncations, wrong_forms};
-use super::{ENDLESS, FAR_TOO_LARGE, TOO_LARGE};
+use super::{each, not_shortest, numbers, stretched, table, truncations, wrong_forms};
+use super::{ENDLESS, FAR_TOO_LARGE, MOST, TOO_LARGE};
 use crate::cases::Case;
 use crate::limits::TABLE_BYTES;
 
-const MOST: u32 = u32::MAX;
 const KEYS: [u32; 3] = [0, 1, MOST];
 const BASE_NAMES: [u32; 4] = [0, 1, 65_535, 65_536];
 const OBJECTS: [u32; 3] = [0, 65_535, 65_536];
@@ -28,11 +27,6 @@ pub fn rows() -> Vec<Case> {
     rows.extend(wide());
     rows.extend(lengths());
     rows.into_iter().map(table).collect()
-}
-
-/// A row for each value: a table but for the number that is tried.
-fn each(values: &[u32], row: impl Fn(u32) -> Vec<u32>) -> Vec<Vec<u8>> {
-    values.iter().map(|&value| numbers(&row(value))).collect()
 }
 
 /// Versions, and first numbers that are none.

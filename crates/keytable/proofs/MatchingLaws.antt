@@ -1,0 +1,146 @@
+-- A record matches if its owner, object and right are those that are asked; then the rules know it, and only then.
+use mathlib.Core.Path.{_≡_, refl, sym, _∙_, ap, subst}
+use mathlib.Core.Bool.{Bool, true, false, not}
+use mathlib.Core.List.{List}
+use Prim.Native.Nat.{ℕ, suc, _+_, _<_, _≤_}
+use native.Mathlib.Omega.{arith}
+use lib.ListN.{length, take, set}
+use Rattle.rules.specs.Lists.{At}
+use Rattle.rules.specs.Sheets.{entry}
+use Rattle.rules.specs.Tables.{Asked}
+use Rattle.rules.specs.KeyTables.{KeyAccess, KeyDelegation, KeyTable, keySetting}
+use Rattle.rules.specs.declared.Key.{Key}
+use Rattle.rules.proofs.ListsLaws.{at-one}
+use Rattle.keytable.specs.Nodes.{IsNode, HasNode, Apart, FindsNode, node, nobody}
+use Rattle.keytable.specs.Matching.{IsFor, Asks, asked, other, EdgeTurn, drawn, left, CodeTurn, given, enough}
+use Rattle.keytable.specs.declared.nodes.NodeFound.{NodeFound}
+use Rattle.keytable.specs.declared.nodes.NodeFound.the-variants as found
+use Rattle.keytable.proofs.RowsLaws.{written-last}
+
+pub same-key : {k m : Key} → k .0 ≡ m .0 → k ≡ m
+same-key e = λ i. record { 0 = e i }
+
+-- ---- a test turned round
+pub is-not : {b : Bool} → not b ≡ true → b ≡ false
+is-not {b = true} e = let z : _≡_ {A = ℕ} 0 1 = cc in absurd (omega arith)
+is-not {b = false} e = refl
+
+pub is-so : {b : Bool} → not b ≡ false → b ≡ true
+is-so {b = true} e = refl
+is-so {b = false} e = let z : _≡_ {A = ℕ} 0 1 = cc in absurd (omega arith)
+
+-- ---- whether a record is for what is asked
+module _ (q : Asked Key) (owner : Key) (object right : ℕ) where
+  pub asks-all : owner .0 ≡ q .owner .0 → object ≡ q .object → right ≡ q .right → Asks q owner object right true
+  asks-all a b c = asked (record { sameOwner = same-key a; sameObject = b; sameRight = c })
+
+  pub other-owner : (owner .0 ≡ q .owner .0 → ⊥) → Asks q owner object right false
+  other-owner n = other (λ w. n (ap (λ (k : Key). k .0) (w .sameOwner)))
+
+  pub other-object : (object ≡ q .object → ⊥) → Asks q owner object right false
+  other-object n = other (λ w. n (w .sameObject))
+
+  pub other-right : (right ≡ q .right → ⊥) → Asks q owner object right false
+  other-right n = other (λ w. n (w .sameRight))
+
+  pub asks-yes : {b : Bool} → Asks q owner object right b → b ≡ true → IsFor q owner object right
+  asks-yes (asked w) e = w
+  asks-yes (other n) e = let z : _≡_ {A = ℕ} 0 1 = cc in absurd (omega arith)
+
+  pub asks-no : {b : Bool} → Asks q owner object right b → b ≡ false → IsFor q owner object right → ⊥
+  asks-no (asked w) e = let z : _≡_ {A = ℕ} 0 1 = cc in absurd (omega arith)
+  asks-no (other n) e = n
+
+-- ---- the records that match are those that the rules know
+module _ (K : KeyTable) (q : Asked Key) where
+  pub for-wrote : (j : ℕ) (x : KeyDelegation) → At (K .delegations) j x → IsFor q (x .owner) (x .object) (x .right) → keySetting K q .Wrote j (x .writer) (x .delegatee) (x .depth)
+  for-wrote j x a w =
+      let e : x ≡ record { writer = x .writer; owner = q .owner; object = q .object; right = q .right; delegatee = x .delegatee; depth = x .depth } =
+      λ i. record { writer = x .writer; owner = w .sameOwner i; object = w .sameObject i; right = w .sameRight i; delegatee = x .delegatee; depth = x .depth } in
+      subst (At (K .delegations) j) e a
+
+  pub wrote-for : (j d : ℕ) (k k′ : Key) (x : KeyDelegation) → At (K .delegations) j x → keySetting K q .Wrote j k k′ d
+      → IsFor q (x .owner) (x .object) (x .right) × (x .writer ≡ k) × (x .delegatee ≡ k′) × (x .depth ≡ d)
+  wrote-for j d k k′ x a b =
+      let e = at-one a b in (
+        record { sameOwner = ap (λ (y : KeyDelegation). y .owner) e; sameObject = ap (λ (y : KeyDelegation). y .object) e; sameRight = ap (λ (y : KeyDelegation). y .right) e },
+        ap (λ (y : KeyDelegation). y .writer) e,
+        ap (λ (y : KeyDelegation). y .delegatee) e,
+        ap (λ (y : KeyDelegation). y .depth) e,
+      )
+
+  pub for-root : (j : ℕ) (x : KeyAccess) → At (K .accesses) j x → IsFor q (x .owner) (x .object) (x .right) → keySetting K q .Root j (x .subject) (x .depth)
+  for-root j x a w =
+      let e : x ≡ record { owner = q .owner; object = q .object; right = q .right; subject = x .subject; depth = x .depth } =
+      λ i. record { owner = w .sameOwner i; object = w .sameObject i; right = w .sameRight i; subject = x .subject; depth = x .depth } in
+      subst (At (K .accesses) j) e a
+
+  pub root-for : (j d : ℕ) (k : Key) (x : KeyAccess) → At (K .accesses) j x → keySetting K q .Root j k d → IsFor q (x .owner) (x .object) (x .right) × (x .subject ≡ k) × (x .depth ≡ d)
+  root-for j d k x a b =
+      let e = at-one a b in (
+        record { sameOwner = ap (λ (y : KeyAccess). y .owner) e; sameObject = ap (λ (y : KeyAccess). y .object) e; sameRight = ap (λ (y : KeyAccess). y .right) e },
+        ap (λ (y : KeyAccess). y .subject) e,
+        ap (λ (y : KeyAccess). y .depth) e,
+      )
+
+-- ---- nodes, as they were looked for
+pub one-node : {nodes : List ℕ} {u v : ℕ} {k : Key} → Apart nodes → IsNode nodes u k → IsNode nodes v k → u ≡ v
+one-node {u = u} {v = v} apart a b = apart u v (a .there) (b .there) (a .is ∙ sym (b .is))
+
+pub one-key : {nodes : List ℕ} {v : ℕ} {k m : Key} → IsNode nodes v k → IsNode nodes v m → k ≡ m
+one-key a b = same-key (sym (a .is) ∙ b .is)
+
+module _ (nodes : List ℕ) (k : Key) (r : NodeFound) (f : FindsNode nodes k r) where
+  pub node-found : (v : ℕ) → r ≡ found.Node v → IsNode nodes v k
+  node-found v e = go r f e
+    where
+      go : (r : NodeFound) → FindsNode nodes k r → r ≡ found.Node v → IsNode nodes v k
+      go _ (node {v = u} i) e = let q : u ≡ v = cc in subst (λ (y : ℕ). IsNode nodes y k) q i
+      go _ (nobody n) e = let z : _≡_ {A = ℕ} 0 1 = cc in absurd (omega arith)
+
+  pub node-missed : r ≡ found.Nobody → HasNode nodes k → ⊥
+  node-missed e = go r f e
+    where
+      go : (r : NodeFound) → FindsNode nodes k r → r ≡ found.Nobody → HasNode nodes k → ⊥
+      go _ (node i) e = let z : _≡_ {A = ℕ} 0 1 = cc in absurd (omega arith)
+      go _ (nobody n) e = n
+
+-- ---- one delegation, as code takes it
+module _ (q : Asked Key) (nodes : List ℕ) (x : KeyDelegation) (from to depths : List ℕ) (m : ℕ) where
+  abbrev pub EdgeTaken : List ℕ → List ℕ → List ℕ → ℕ → Type 0
+  EdgeTaken from′ to′ depths′ r = EdgeTurn q nodes x (take m from) (take m to) (take m depths) (take r from′) (take r to′) (take r depths′)
+
+  module _ (b : Bool) (is : Asks q (x .owner) (x .object) (x .right) b) where
+    pub edge-other : b ≡ false → EdgeTaken from to depths m
+    edge-other e = left (λ w u v. asks-no q (x .owner) (x .object) (x .right) is e w)
+
+    module _ (r : NodeFound) (first : FindsNode nodes (x .writer) r) where
+      pub edge-from-nobody : r ≡ found.Nobody → EdgeTaken from to depths m
+      edge-from-nobody e = left (λ w u v. node-missed nodes (x .writer) r first e u)
+
+      module _ (t : NodeFound) (second : FindsNode nodes (x .delegatee) t) where
+        pub edge-to-nobody : t ≡ found.Nobody → EdgeTaken from to depths m
+        edge-to-nobody e = left (λ w u v. node-missed nodes (x .delegatee) t second e v)
+
+        pub edge-drawn : b ≡ true → (u v d : ℕ) → r ≡ found.Node u → t ≡ found.Node v → d ≡ x .depth → m < length from → m < length to → m < length depths
+            → EdgeTaken (set from m u) (set to m v) (set depths m d) (m + 1)
+        edge-drawn e u v d i j g h₁ h₂ h₃ =
+            rw (written-last from m u h₁, written-last to m v h₂, written-last depths m d h₃, g)
+            (drawn (asks-yes q (x .owner) (x .object) (x .right) is e) (node-found nodes (x .writer) r first u i) (node-found nodes (x .delegatee) t second v j))
+
+-- ---- one access record, as code takes it
+module _ (q : Asked Key) (nodes : List ℕ) (x : KeyAccess) (best : List ℕ) (b : Bool) (is : Asks q (x .owner) (x .object) (x .right) b) where
+  pub code-other : b ≡ false → CodeTurn q nodes x best best
+  code-other e = enough (λ v w i. absurd (asks-no q (x .owner) (x .object) (x .right) is e w))
+
+  module _ (r : NodeFound) (f : FindsNode nodes (x .subject) r) where
+    pub code-nobody : r ≡ found.Nobody → CodeTurn q nodes x best best
+    code-nobody e = enough (λ v w i. absurd (node-missed nodes (x .subject) r f e (v, i)))
+
+    module _ (v c : ℕ) (at : r ≡ found.Node v) (g : c ≡ suc (x .depth)) where
+      pub code-enough : Apart nodes → c ≤ entry best v → CodeTurn q nodes x best best
+      code-enough apart h =
+          enough (λ u w i. let e : u ≡ v = one-node apart i (node-found nodes (x .subject) r f v at) in rw e (omega (arith, h, g)))
+
+      pub code-given : b ≡ true → entry best v < c → CodeTurn q nodes x best (set best v c)
+      code-given e h = rw g (given (asks-yes q (x .owner) (x .object) (x .right) is e) (node-found nodes (x .subject) r f v at) (omega (arith, h, g)))

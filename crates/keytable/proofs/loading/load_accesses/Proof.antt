@@ -1,0 +1,58 @@
+-- `load_accesses` judges the count, then reads so many records.
+use Rattle.table.proofs.SectionsLaws.{count-within, section-fails, records-fail, section-found}
+use borrow.Author.Needs.{needs}
+use Rattle.keytable.proofs.loading.load_accesses.Statement.{statement}
+use Rattle.keytable.proofs.loading.load_accesses.Tie as tie
+
+read-field-requires : tie.Need-read-field-requires
+read-field-requires c κs = search needs
+
+enum-known-header : tie.Need-enum-known-header
+enum-known-header c = search needs
+
+enum-told : tie.Need-enum-told
+enum-told c = search needs
+
+field-fault-requires : tie.Need-field-fault-requires
+field-fault-requires c κs = search needs
+
+returns : tie.Need-returns
+returns c = section-fails _ _ _ _ _ (c .before .before .before .read-field .ensures) (λ x. Unit {0}) _ _ (c .before .enum-told .given .1) (c .field-fault .ensures) .0
+
+cast-count : tie.Need-cast-count
+cast-count c = search needs
+
+read-accesses-requires : tie.Need-read-accesses-requires
+read-accesses-requires c κs = count-within _ _ _ _ _ _ (c .before .before .before .read-field .ensures) (c .before .header .given .1) (c .before .before .before .before .before .pre)
+
+enum-known-rest : tie.Need-enum-known-rest
+enum-known-rest c = search needs
+
+enum-told-2 : tie.Need-enum-told-2
+enum-told-2 c = search needs
+
+after-fault-requires : tie.Need-after-fault-requires
+after-fault-requires c κs = search needs
+
+returns-2 : tie.Need-returns-2
+returns-2 c = records-fail _ _ _ _ _ (c .before .before .before .before .before .before .before .read-field .ensures) (λ x. Unit {0}) _ _ (c .before .before .before .before .before .header .given .1) _ (c .before .before .before .read-accesses .ensures) _ _ (c .before .enum-told2 .given .1) (c .after-fault .ensures) .0
+
+returns-3 : tie.Need-returns-3
+returns-3 c = section-found _ _ _ _ _ (c .before .before .before .before .before .before .before .read-field .ensures) (λ x. Unit {0}) _ _ (c .before .before .before .before .before .header .given .1) _ (c .before .before .before .read-accesses .ensures) _ (c .before .rest .given .1) (λ l end e. tt) .0
+
+pub load-accesses-spec : {M : Type 1} → statement M
+load-accesses-spec =
+    tie.close
+    (tie.spec
+    read-field-requires
+    enum-known-header
+    enum-told
+    field-fault-requires
+    returns
+    cast-count
+    read-accesses-requires
+    enum-known-rest
+    enum-told-2
+    after-fault-requires
+    returns-2
+    returns-3)

@@ -1,0 +1,6 @@
+-- What key tables hold, and what is decided over them.
+pub mod Loading
+pub mod Nodes
+pub mod Matching
+pub mod Settling
+pub mod Deciding

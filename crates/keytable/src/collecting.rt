@@ -1,0 +1,153 @@
+// All records that match a request, collected section by section: nodes for keys, edges for delegations, and the codes at the start.
+ghost use Prim.Native.Nat.{_+_, _<_, _≤_};
+ghost use lib.ListN.{length, take};
+ghost use Rattle.rules.specs.Ranges.{mostDelegations, GoodKeyTable};
+ghost use Rattle.records.specs.KeyRecords.{keyAccessRecord, keyDelegationRecord};
+ghost use Rattle.keytable.specs.Loading.{keyTableAt, Stand, Known};
+ghost use Rattle.keytable.specs.Nodes.{Empty, Nodes, Grown};
+ghost use Rattle.keytable.specs.Matching.{keyRequestOf, Writers, Drawn, Given, Matched};
+use crate::KeySections;
+use crate::matching::take_access;
+use crate::matching::take_delegation;
+use crate::matching::take_writer;
+use crate::nodes::add_node;
+use records::keys::KeyAccessRead;
+use records::keys::KeyDelegationRead;
+use records::keys::read_key_access;
+use records::keys::read_key_delegation;
+use records::requests::KeyRequest;
+use table::loading::Section;
+
+// Makes nodes for the writers of the delegations that match, behind those that stand; answers how many there are then.
+fn collect_nodes(
+    table: &[u8],
+    section: Section,
+    request: KeyRequest,
+    keys: &mut [u32],
+    heads: &mut [u16],
+    nexts: &mut [u16],
+    one: usize,
+) -> usize
+    requires { ⌜ Stand keyDelegationRecord (now table) section (keyTableAt (now table) .delegations) × Nodes (take one (now keys)) (now heads) (now nexts) × (one + section .count ≤ length (now keys)) × (one + section .count ≤ length (now nexts)) × (one + section .count ≤ 65535) ⌝ }
+    ensures grown { λ r. ⌜ Grown (take one (now (keys .entry))) (take r (now (keys .exit))) (now (heads .exit)) (now (nexts .exit)) ⌝ }
+    ensures writers { λ r. ⌜ Writers (keyTableAt (now (table .entry))) (keyRequestOf request .asked) (take r (now (keys .exit))) (length (keyTableAt (now (table .entry)) .delegations)) ⌝ }
+    ensures few { λ r. ⌜ r ≤ one + section .count ⌝ }
+{
+    let count = section.count;
+    let mut at = section.first;
+    let mut n = one;
+    let mut i = 0;
+    while i < count {
+        let read = read_key_delegation(&table[at..]);
+        let KeyDelegationRead::KeyDelegation(delegation, taken) = read else {
+            return n;
+        };
+        n = take_writer(request, delegation, keys, heads, nexts, n);
+        at = at + taken;
+        i = i + 1;
+    }
+    n
+}
+
+// Draws the edges of the delegations that match; answers how many there are.
+fn collect_edges(
+    table: &[u8],
+    section: Section,
+    request: KeyRequest,
+    keys: &[u32],
+    heads: &[u16],
+    nexts: &[u16],
+    from: &mut [u16],
+    to: &mut [u16],
+    depths: &mut [u8],
+) -> usize
+    requires { ⌜ Stand keyDelegationRecord (now table) section (keyTableAt (now table) .delegations) × GoodKeyTable (keyTableAt (now table)) × Nodes (now keys) (now heads) (now nexts) × (length (now keys) ≤ 65536) × (section .count ≤ length (now from)) × (section .count ≤ length (now to)) × (section .count ≤ length (now depths)) ⌝ }
+    ensures drawn { λ r. ⌜ Drawn (keyTableAt (now (table .entry))) (keyRequestOf request .asked) (now (keys .entry)) (length (keyTableAt (now (table .entry)) .delegations)) (take r (now (from .exit))) (take r (now (to .exit))) (take r (now (depths .exit))) ⌝ }
+    ensures few { λ r. ⌜ r ≤ section .count ⌝ }
+{
+    let count = section.count;
+    let mut at = section.first;
+    let mut m = 0;
+    let mut i = 0;
+    while i < count {
+        let read = read_key_delegation(&table[at..]);
+        let KeyDelegationRead::KeyDelegation(delegation, taken) = read else {
+            return m;
+        };
+        m = take_delegation(request, delegation, keys, heads, nexts, from, to, depths, m);
+        at = at + taken;
+        i = i + 1;
+    }
+    m
+}
+
+// Gives the nodes the codes of the access records that match.
+fn collect_codes(
+    table: &[u8],
+    section: Section,
+    request: KeyRequest,
+    keys: &[u32],
+    heads: &[u16],
+    nexts: &[u16],
+    best: &mut [u8],
+)
+    requires { ⌜ Stand keyAccessRecord (now table) section (keyTableAt (now table) .accesses) × GoodKeyTable (keyTableAt (now table)) × Nodes (now keys) (now heads) (now nexts) × (length (now keys) ≤ length (now best)) × Empty (now best) ⌝ }
+    ensures { λ _. ⌜ Given (keyTableAt (now (table .entry))) (keyRequestOf request .asked) (now (keys .entry)) (length (keyTableAt (now (table .entry)) .accesses)) (now (best .exit)) ⌝ }
+{
+    let count = section.count;
+    let mut at = section.first;
+    let mut i = 0;
+    while i < count {
+        let read = read_key_access(&table[at..]);
+        let KeyAccessRead::KeyAccess(access, taken) = read else {
+            return;
+        };
+        take_access(request, access, keys, heads, nexts, best);
+        at = at + taken;
+        i = i + 1;
+    }
+}
+
+// Collects all records that match: edges, of which it answers how many there are, and the codes at the start. The subject is node 0.
+pub fn collect(
+    table: &[u8],
+    sections: KeySections,
+    request: KeyRequest,
+    from: &mut [u16],
+    to: &mut [u16],
+    depths: &mut [u8],
+    best: &mut [u8],
+) -> usize
+    requires { ⌜ Known (now table) sections × Empty (now best) × (mostDelegations < length (now best)) × (mostDelegations ≤ length (now from)) × (mostDelegations ≤ length (now to)) × (mostDelegations ≤ length (now depths)) ⌝ }
+    ensures matched { λ r. ⌜ Matched (keyTableAt (now (table .entry))) (keyRequestOf request) (take r (now (from .exit))) (take r (now (to .exit))) (take r (now (depths .exit))) (now (best .exit)) ⌝ }
+    ensures few { λ r. ⌜ r ≤ mostDelegations ⌝ }
+{
+    let mut keys = [0; 513];
+    let mut heads = [0; 64];
+    let mut nexts = [0; 513];
+    let subject = request.subject;
+    let accesses = sections.accesses;
+    let delegations = sections.delegations;
+    let one = add_node(&mut keys, &mut heads, &mut nexts, 0, subject);
+    let n = collect_nodes(
+        table,
+        delegations,
+        request,
+        &mut keys,
+        &mut heads,
+        &mut nexts,
+        one,
+    );
+    collect_codes(table, accesses, request, &keys[..n], &heads, &nexts, best);
+    collect_edges(
+        table,
+        delegations,
+        request,
+        &keys[..n],
+        &heads,
+        &nexts,
+        from,
+        to,
+        depths,
+    )
+}

@@ -1,0 +1,71 @@
+// Kind 6: fills the name sheet of a table.
+ghost use Prim.Native.Nat.{_≤_};
+ghost use lib.ListN.{length};
+ghost use Rattle.rules.specs.Ranges.{mostBindings};
+ghost use Rattle.vectors.specs.Sheets.{SheetOf};
+use crate::answers::GOOD;
+use crate::answers::fault_line;
+use crate::input::Part;
+use crate::input::read_part;
+use crate::lines::write_line;
+use crate::lines::write_row;
+use records::faults::Fault;
+use sheet::filling::fill;
+use table::Loaded;
+use table::load_index;
+
+// How many entries the sheet of a table has, or the table's fault.
+pub enum SheetRead {
+    Entries(usize),
+    Bad(Fault),
+}
+
+// Reads the table and fills its sheet.
+fn fill_sheet(table: &[u8], sheet: &mut [u32], order: &mut [u16]) -> SheetRead
+    requires { ⌜ (mostBindings ≤ length (now sheet)) × (mostBindings ≤ length (now order)) ⌝ }
+    ensures { λ r. ⌜ SheetOf (now (table .entry)) (now (sheet .exit)) r ⌝ }
+{
+    let mut keys = [0u32; 64];
+    let mut names = [0u32; 256];
+    let mut bindings = [0u16; 256];
+    let mut accesses = [0u16; 256];
+    let mut delegations = [0u16; 512];
+    match load_index(
+        table,
+        &mut keys,
+        &mut names,
+        &mut bindings,
+        &mut accesses,
+        &mut delegations,
+    ) {
+        Loaded::Good(sections) => {
+            let spaces = sections.spaces;
+            let bound = sections.bindings;
+            fill(
+                table,
+                &keys[..spaces.count],
+                &names[..bound.count],
+                &bindings,
+                sheet,
+                order,
+            );
+            SheetRead::Entries(bound.count)
+        }
+        Loaded::Bad(fault) => SheetRead::Bad(fault),
+    }
+}
+
+// Answers the case, and says whether to go on.
+pub fn answer() -> bool {
+    let mut buffer = io::large_buffer();
+    let Part::Whole(length) = read_part(&mut buffer) else {
+        return false;
+    };
+    let mut sheet = [7u32; 256];
+    let mut order = [0u16; 256];
+    match fill_sheet(&buffer[..length], &mut sheet, &mut order) {
+        SheetRead::Entries(count) => write_row(GOOD, &sheet[..count]),
+        SheetRead::Bad(fault) => write_line(fault_line(fault)),
+    }
+    true
+}
