@@ -1,19 +1,19 @@
 -- The edges of a request's graph, delegation by delegation.
 use mathlib.Core.Path.{_≡_, refl, sym, _∙_, ap, subst}
 use mathlib.Core.List.{List, [], _∷_}
-use Prim.Native.Nat.{ℕ, suc, _+_, _<_, _≤_}
+use Prim.Native.Nat.{ℕ, _+_, _<_, _≤_}
 use native.Mathlib.Omega.{arith}
 use native.Mathlib.Decide.{ℕ-discrete}
 use native.Mathlib.Numerals.{add-one}
 use lib.ListN.{length, take, set, length-append, List·getD-append}
-use lib.Seq.{getD-append-seam, take-suc-set, length-take-le}
+use lib.Seq.{getD-append-seam, take-suc-set}
 use Rattle.rules.specs.Lists.{_▷_}
 use Rattle.rules.specs.Tables.{Asked, Table}
 use Rattle.rules.specs.Depths.{top}
-use Rattle.rules.specs.Ranges.{GoodNames, mostDelegations}
+use Rattle.rules.specs.Ranges.{GoodNames}
 use Rattle.rules.specs.Names.{IsSelf}
 use Rattle.rules.specs.Sheets.{entry}
-use Rattle.rules.specs.Access.{Setting, Name, Writes, settingBy}
+use Rattle.rules.specs.Access.{Setting, Name, settingBy}
 use Rattle.rules.specs.declared.Key.{Key}
 use Rattle.rules.specs.declared.Space.{Space}
 use Rattle.rules.specs.declared.Depth.{Depth}
@@ -26,7 +26,7 @@ use Rattle.matching.specs.Matching.{told, HandsOn, Hands, Held}
 use Rattle.matching.specs.declared.Handed.{Handed}
 use Rattle.matching.specs.declared.Handed.the-variants as asHanded
 use Rattle.matching.proofs.MatchingLaws.{hands-on, hands-none}
-use Rattle.reach.specs.Graphs.{WroteTo, Edge, Drawn}
+use Rattle.reach.specs.Graphs.{WroteTo, Edge}
 use Rattle.decision.specs.Gathering.{IsNode, space, FindsNode, DrawnSo, Room}
 use Rattle.decision.specs.declared.gathering.NodeFound.{NodeFound}
 use Rattle.decision.specs.declared.gathering.NodeFound.the-variants as found

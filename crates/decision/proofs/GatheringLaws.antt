@@ -1,6 +1,6 @@
 -- The graph of a request's records, record by record.
 use mathlib.Core.Path.{_≡_, refl, sym, _∙_, ap, subst}
-use mathlib.Core.List.{List, [], _∷_}
+use mathlib.Core.List.{List}
 use Prim.Native.Nat.{ℕ, suc, _+_, _<_, _≤_}
 use native.Mathlib.Omega.{arith}
 use native.Mathlib.Decide.{ℕ-discrete}
@@ -18,7 +18,7 @@ use Rattle.rules.specs.declared.Depth.{Depth}
 use Rattle.rules.proofs.NamesLaws.{self-one}
 use Rattle.rules.proofs.AccessLaws.{table-fixed}
 use Rattle.table.specs.ReadTable.{tableAt}
-use Rattle.table.specs.Finding.{FindsSpace, has, nobody, keysOf}
+use Rattle.table.specs.Finding.{FindsSpace, keysOf}
 use Rattle.table.specs.declared.finding.SpaceFound.{SpaceFound}
 use Rattle.table.specs.declared.finding.SpaceFound.the-variants as asSpace
 use Rattle.sheet.proofs.FindsLaws.{space-has, space-none, leads-one}
@@ -27,7 +27,7 @@ use Rattle.matching.specs.Matching.{told, GivesTo, Gives, Held}
 use Rattle.matching.specs.declared.Given.{Given as GivenAnswer}
 use Rattle.matching.specs.declared.Given.the-variants as asGiven
 use Rattle.matching.proofs.MatchingLaws.{gives-to, gives-none}
-use Rattle.reach.specs.Graphs.{RootTo, Given}
+use Rattle.reach.specs.Graphs.{RootTo}
 use Rattle.decision.specs.Gathering.{IsNode, space, stranger, FindsNode, node, GivenSo}
 use Rattle.decision.specs.Gathering.{nobody as no-node}
 use Rattle.decision.specs.declared.gathering.NodeFound.{NodeFound}

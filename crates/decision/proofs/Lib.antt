@@ -1,3 +1,4 @@
 pub mod GatheringLaws
 pub mod DrawingLaws
 pub mod SettlingLaws
+pub mod ShowingLaws

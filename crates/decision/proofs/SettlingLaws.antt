@@ -4,15 +4,14 @@ use mathlib.Core.List.{List}
 use Prim.Native.Nat.{ℕ, zero, suc, _+_, _<_, _≤_}
 use native.Mathlib.Omega.{arith}
 use native.Mathlib.Decide.{ℕ-discrete}
-use lib.ListN.{length, drop, getD, set, length-set}
+use lib.ListN.{length, drop, set, length-set}
 use lib.Seq.{ext-getD, getD-set-same, getD-set-other}
-use Rattle.rules.specs.Tables.{Asked, Table}
+use Rattle.rules.specs.Tables.{Asked}
 use Rattle.rules.specs.Depths.{top}
-use Rattle.rules.specs.Ranges.{Good, mostAccesses, mostDelegations}
-use Rattle.rules.specs.Names.{IsSelf}
+use Rattle.rules.specs.Ranges.{mostDelegations}
 use Rattle.rules.specs.Sheets.{entry}
 use Rattle.rules.specs.Access.{Setting, settingBy}
-use Rattle.rules.specs.Verdicts.{Has, nothing}
+use Rattle.rules.specs.Verdicts.{Has}
 use Rattle.rules.specs.Greatest.{verdictOf}
 use Rattle.rules.specs.declared.Key.{Key}
 use Rattle.rules.specs.declared.Space.{Space}
@@ -25,11 +24,11 @@ use Rattle.reach.specs.Reached.{Edges, Lent, Reached}
 use Rattle.reach.specs.Graphs.{Graph, Traced}
 use Rattle.reach.proofs.GraphsLaws.{settled, traced-chain}
 use Rattle.decision.specs.Gathering.{IsNode, space, stranger, FindsNode, GivenSo, DrawnSo}
-use Rattle.decision.specs.Settling.{Zeros, ChainAt, Settles}
+use Rattle.decision.specs.Settling.{Zeros, Settles}
 use Rattle.decision.specs.declared.gathering.NodeFound.{NodeFound}
 use Rattle.decision.specs.declared.gathering.NodeFound.the-variants as found
 use Rattle.decision.specs.declared.settling.Settled.{Settled}
-use Rattle.decision.proofs.GatheringLaws.{one-node, one-key, node-below, finds-node, finds-nobody, node-here, node-fits}
+use Rattle.decision.proofs.GatheringLaws.{one-node, one-key, node-below, finds-node, finds-nobody, node-here}
 
 -- ---- a copy
 pub record Copied (source out₀ out : List ℕ) (i : ℕ) : Type 0 where

@@ -1,5 +1,4 @@
 -- The graph of a request's records: a node for each space and for the subject.
-use mathlib.Core.Path.{_≡_}
 use mathlib.Core.List.{List}
 use Prim.Native.Nat.{ℕ, _≤_}
 use lib.ListN.{length}

@@ -102,12 +102,15 @@ module _ (s keys names accesses delegations : List ℕ) (held : Held s keys name
     reads : (n : ℕ) × (r ≡ asAccess.Access (accessValue x) n)
     reads = let b = stands-back (accessRecord (length keys)) (access-walks (length keys)) s accesses (tableAt s .accesses) (held .accesses) i x here in (b .0, found ∙ ap accessRead (b .1))
 
-    pub access-fault : (sheet : List ℕ) (q : Asked Space) (f : Fault) → r ≡ asAccess.Fault f → Gives (GivesTo (tableAt s) sheet q i) asGiven.Nothing
-    access-fault sheet q f e =
+    pub access-never : (f : Fault) → r ≡ asAccess.Fault f → ⊥
+    access-never f e =
         let w = reads in
         let z : asAccess.Access (accessValue x) (w .0) ≡ asAccess.Fault f = sym (w .1) ∙ e in
         let y : _≡_ {A = ℕ} 0 1 = cc in
         absurd (omega arith)
+
+    pub access-fault : (sheet : List ℕ) (q : Asked Space) (f : Fault) → r ≡ asAccess.Fault f → Gives (GivesTo (tableAt s) sheet q i) asGiven.Nothing
+    access-fault sheet q f e = absurd (access-never f e)
 
     module _ (v : Access) (n : ℕ) (e : r ≡ asAccess.Access v n) where
       is : v ≡ accessValue x
@@ -116,6 +119,9 @@ module _ (s keys names accesses delegations : List ℕ) (held : Held s keys name
           let z : asAccess.Access (accessValue x) (w .0) ≡ asAccess.Access v n = sym (w .1) ∙ e in
           let y : accessValue x ≡ v = cc z in
           sym y
+
+      pub access-value : (y : AccessRecord) × At (tableAt s .accesses) i y × (v ≡ accessValue y)
+      access-value = (x, here, is)
 
       pub access-fits : (v .owner .0 < length keys) × Fitting (v .path)
       access-fits = (
@@ -191,12 +197,15 @@ module _ (s keys names accesses delegations : List ℕ) (held : Held s keys name
         let b = stands-back (delegationRecord (length keys)) (delegation-walks (length keys)) s delegations (tableAt s .delegations) (held .delegations) j y there in
         (b .0, found ∙ ap delegationRead (b .1))
 
-    pub delegation-fault : (sheet : List ℕ) (q : Asked Space) (f : Fault) → r ≡ asDelegation.Fault f → Hands (HandsOn (tableAt s) sheet q j) asHanded.Nothing
-    delegation-fault sheet q f e =
+    pub delegation-never : (f : Fault) → r ≡ asDelegation.Fault f → ⊥
+    delegation-never f e =
         let w = read in
         let z : asDelegation.Delegation (delegationValue y) (w .0) ≡ asDelegation.Fault f = sym (w .1) ∙ e in
         let u : _≡_ {A = ℕ} 0 1 = cc in
         absurd (omega arith)
+
+    pub delegation-fault : (sheet : List ℕ) (q : Asked Space) (f : Fault) → r ≡ asDelegation.Fault f → Hands (HandsOn (tableAt s) sheet q j) asHanded.Nothing
+    delegation-fault sheet q f e = absurd (delegation-never f e)
 
     module _ (v : DelegationValue) (n : ℕ) (e : r ≡ asDelegation.Delegation v n) where
       its : v ≡ delegationValue y
@@ -205,6 +214,9 @@ module _ (s keys names accesses delegations : List ℕ) (held : Held s keys name
           let z : asDelegation.Delegation (delegationValue y) (w .0) ≡ asDelegation.Delegation v n = sym (w .1) ∙ e in
           let u : delegationValue y ≡ v = cc z in
           sym u
+
+      pub delegation-value : (z : Delegation) × At (tableAt s .delegations) j z × (v ≡ delegationValue z)
+      delegation-value = (y, there, its)
 
       writer-fits : v .writer .0 < length keys
       writer-fits = rw (ap (λ (u : DelegationValue). u .writer .0) its) (omega (arith, held .good .delegations j y there .writer, index-spaces (tableAt s .names) keys names (held .index)))

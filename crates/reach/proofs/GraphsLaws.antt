@@ -16,7 +16,7 @@ use Rattle.rules.proofs.DepthsLaws.{Fits, step-more, code-of-step, step-of-code
 use Rattle.rules.proofs.AccessLaws.{access-to, chain→access}
 use Rattle.rules.proofs.GreatestLaws.{ClosedDepths, account-greatest}
 use Rattle.reach.specs.Reached.{gives, Why, given, byEdge, Reached}
-use Rattle.reach.specs.Graphs.{RootTo, WroteTo, Nodes, Edge, Graph, Traced, onward}
+use Rattle.reach.specs.Graphs.{Nodes, Edge, Graph, Traced, onward}
 use Rattle.reach.specs.Graphs.{given as traced-given}
 
 module _ (Y : Setting) (fit : Fits (Y .Above)) (Node : Nodes) (accesses delegations : ℕ) (from to depths numbers start roots best by : List ℕ)

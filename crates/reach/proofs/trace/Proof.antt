@@ -1,9 +1,7 @@
 -- `trace` goes to a greater code with each edge, so the chain has room.
 use mathlib.Core.Path.{sym, _∙_}
 use native.Mathlib.Omega.{arith}
-use lib.ListN.{length}
 use Rattle.reach.proofs.TracingLaws.{Tracing, tracing-start, trace-there, trace-ends, edge-there, room-there, tracing-on}
-use borrow.Author.Needs.{needs}
 use Rattle.reach.proofs.trace.Statement.{statement}
 use Rattle.reach.proofs.trace.Tie as tie
 

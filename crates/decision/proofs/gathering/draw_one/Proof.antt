@@ -1,9 +1,8 @@
 -- `draw_one` takes the delegation as an edge, if it is between two nodes.
-use mathlib.Core.Path.{subst}
 use native.Mathlib.Omega.{arith}
 use Rattle.matching.proofs.MatchingLaws.{few-spaces, delegations-below}
 use Rattle.decision.proofs.GatheringLaws.{node-here, node-fits}
-use Rattle.decision.proofs.DrawingLaws.{hands-no-edge, to-nobody, one-more-edge, drawn-in, writer-fits-node, edge-depth-fits, drawn-as}
+use Rattle.decision.proofs.DrawingLaws.{hands-no-edge, to-nobody, one-more-edge, writer-fits-node, edge-depth-fits, drawn-as}
 use borrow.Author.Needs.{needs}
 use Rattle.decision.proofs.gathering.draw_one.Statement.{statement}
 use Rattle.decision.proofs.gathering.draw_one.Tie as tie
