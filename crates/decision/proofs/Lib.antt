@@ -2,3 +2,4 @@ pub mod GatheringLaws
 pub mod DrawingLaws
 pub mod SettlingLaws
 pub mod ShowingLaws
+pub mod DerivingLaws
