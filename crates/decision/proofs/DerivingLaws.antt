@@ -1,17 +1,14 @@
 -- What was settled and marked is a derivation that holds, with nothing idle.
-use mathlib.Core.Path.{_≡_, subst}
 use mathlib.Core.Logic.{_⊎_, inl, inr}
-use mathlib.Core.Bool.{Bool, true}
+use mathlib.Core.Bool.{Bool}
 use mathlib.Core.List.{List}
-use Prim.Native.Nat.{ℕ, _≤_}
-use lib.ListN.{length}
-use Rattle.rules.specs.Lists.{At, In, keep}
-use Rattle.rules.specs.Tables.{Path, Target, toName, Binding, AccessRecord, Delegation, Asked, Request, Table}
-use Rattle.rules.specs.Depths.{top}
+use Prim.Native.Nat.{ℕ}
+use Rattle.rules.specs.Lists.{In, keep}
+use Rattle.rules.specs.Tables.{Path, toName, Request, Table}
 use Rattle.rules.specs.Ranges.{Good}
 use Rattle.rules.specs.Names.{Means, TargetMeans, Through}
 use Rattle.rules.specs.Sheets.{Exact}
-use Rattle.rules.specs.Access.{settingBy, setting}
+use Rattle.rules.specs.Access.{settingBy}
 use Rattle.rules.specs.Filling.{Filling, AtRest}
 use Rattle.rules.specs.Derivations.{Derivation, Holds, Used, bySubject, byBinding, byAccess, byOwnerPath, byDelegateePath, NoneIdle}
 use Rattle.rules.specs.declared.Key.{Key}

@@ -3,3 +3,4 @@ pub mod DrawingLaws
 pub mod SettlingLaws
 pub mod ShowingLaws
 pub mod DerivingLaws
+pub mod WritingLaws

@@ -1,3 +1,4 @@
 pub mod Gathering
 pub mod Settling
 pub mod Showing
+pub mod Writing

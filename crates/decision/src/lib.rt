@@ -2,3 +2,4 @@
 pub mod gathering;
 pub mod settling;
 pub mod showing;
+pub mod writing;
