@@ -14,7 +14,7 @@ use reference::show::show;
 
 const USAGE: &str = "usage:
   reference cases SEED COUNT [KINDS] > CASES   make cases (KINDS: a comma list, like 1,10)
-  reference rows GROUP > CASES                 document 01's rows and its limits at their edges
+  reference rows GROUP [KINDS] > CASES         document 01's rows and its limits at their edges
   reference answers < CASES > LINES            the answer line of each case
   reference compare CASES LINES                compare LINES with our own answers
   reference show < TABLE                       a table in readable columns
@@ -57,7 +57,8 @@ fn run(words: &[&str]) -> Result<ExitCode, Failure> {
     match words {
         ["cases", seed, count] => make_cases(seed, count, None),
         ["cases", seed, count, kinds] => make_cases(seed, count, Some(kinds)),
-        ["rows", group] => write_rows(group),
+        ["rows", group] => write_rows(group, None),
+        ["rows", group, kinds] => write_rows(group, Some(kinds)),
         ["answers"] => answer_cases(),
         ["compare", cases, lines] => compare_files(cases, lines),
         ["show"] => show_table(),
@@ -72,10 +73,7 @@ fn wrong_use(what: &str) -> Failure {
 fn make_cases(seed: &str, count: &str, kinds: Option<&str>) -> Result<ExitCode, Failure> {
     let seed = whole_number(seed)?;
     let count = whole_number(count)?;
-    let kinds = match kinds {
-        Some(list) => kinds_of(list)?,
-        None => kinds::ALL.to_vec(),
-    };
+    let kinds = kinds_of(kinds)?;
     let mut out = BufWriter::new(io::stdout().lock());
     for index in 0..count {
         let mut bytes = Vec::new();
@@ -86,9 +84,10 @@ fn make_cases(seed: &str, count: &str, kinds: Option<&str>) -> Result<ExitCode, 
     Ok(ExitCode::SUCCESS)
 }
 
-fn write_rows(group: &str) -> Result<ExitCode, Failure> {
+fn write_rows(group: &str, kinds: Option<&str>) -> Result<ExitCode, Failure> {
     let rows = rows::group(group)
         .ok_or_else(|| wrong_use(&format!("reference: `{group}` is no group of rows\n")))?;
+    let rows = rows::of_kinds(rows, &kinds_of(kinds)?);
     let mut bytes = Vec::new();
     for case in &rows {
         write_case(&mut bytes, case);
@@ -102,7 +101,11 @@ fn whole_number(word: &str) -> Result<u64, Failure> {
         .map_err(|_| wrong_use(&format!("reference: `{word}` is no number\n")))
 }
 
-fn kinds_of(list: &str) -> Result<Vec<Kind>, Failure> {
+/// The kinds of a list, or all where there is none.
+fn kinds_of(list: Option<&str>) -> Result<Vec<Kind>, Failure> {
+    let Some(list) = list else {
+        return Ok(kinds::ALL.to_vec());
+    };
     let kinds: Option<Vec<Kind>> = list
         .split(',')
         .map(|word| word.parse().ok().and_then(Kind::of_number))

@@ -5,7 +5,7 @@ mod common;
 use std::fs;
 
 use common::T;
-use reference::cases::{read_cases, write_case};
+use reference::cases::{read_cases, write_case, Kind};
 use reference::line::answer_line;
 use reference::rows;
 
@@ -18,7 +18,11 @@ fn stored(name: &str) -> Vec<u8> {
 #[test]
 fn the_stored_cases_are_the_rows() {
     let mut bytes = Vec::new();
-    for group in [rows::reading(), rows::names(), rows::checking()] {
+    let by_keys = rows::of_kinds(
+        rows::translating(),
+        &[Kind::ReadKeyTable, Kind::DecideByKeys],
+    );
+    for group in [rows::reading(), rows::names(), rows::checking(), by_keys] {
         for case in &group {
             write_case(&mut bytes, case);
         }

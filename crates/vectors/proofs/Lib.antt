@@ -1,5 +1,6 @@
 -- Laws of answer lines.
 pub mod ChecksLaws
+pub mod KeyDecisionsLaws
 pub mod LinesLaws
 pub mod PartsLaws
 pub mod SheetsLaws

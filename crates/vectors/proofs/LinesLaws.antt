@@ -23,13 +23,18 @@ use Rattle.records.specs.declared.requests.KeyRequest.{KeyRequest as KeyRequest
 use Rattle.records.specs.declared.requests.KeyRequestRead.{KeyRequestRead}
 use Rattle.records.specs.declared.requests.KeyRequestRead.the-variants as asKeyRequest
 use Rattle.records.proofs.DerivationForm.{derivation-form}
+use Rattle.table.specs.ReadKeyTable.{KeyLaid}
 use Rattle.table.specs.ReadTable as table
 use Rattle.table.specs.ReadTable.{loadedOf, sectionsOf}
 use Rattle.table.specs.declared.Sections.{Sections}
 use Rattle.table.specs.declared.Loaded.{Loaded}
 use Rattle.table.specs.declared.Loaded.the-variants as loaded
+use Rattle.keytable.specs.Loading.{keyLoadedOf, keySectionsOf}
+use Rattle.keytable.specs.declared.KeySections.{KeySections}
+use Rattle.keytable.specs.declared.KeyLoaded.{KeyLoaded}
+use Rattle.keytable.specs.declared.KeyLoaded.the-variants as keyLoaded
 use Rattle.vectors.specs.Answers.{good, wrongRequest, notADerivation}
-use Rattle.vectors.specs.Lines.{faultLine, tableLine, wholeLine, requestLine, keyRequestLine, derivationLine}
+use Rattle.vectors.specs.Lines.{faultLine, tableLine, keyTableLine, wholeLine, requestLine, keyRequestLine, derivationLine}
 use Rattle.vectors.specs.declared.lines.Line.{Line}
 use Rattle.vectors.specs.declared.lines.Line.the-variants.{One, Three, Five}
 
@@ -46,6 +51,20 @@ pub table-bad : (p : Parsed table.Laid) (r : Loaded) (f : Fault) (line : Line) �
 unfolding tableLine
 table-bad (got l at) r f line e h q = let z : _≡_ {A = ℕ} 0 1 = cc in absurd (omega arith)
 table-bad (bad g) r f line e h q = let x : f ≡ g = cc in q ∙ ap faultLine x
+
+-- ---- key tables
+abbrev pub keyCountsLine : KeySections → Line
+keyCountsLine s = Three good (s .accesses .count) (s .delegations .count)
+
+pub key-table-good : (p : Parsed KeyLaid) (r : KeyLoaded) (s : KeySections) → r ≡ keyLoadedOf p → r ≡ keyLoaded.Good s → keyCountsLine s ≡ keyTableLine p
+unfolding keyTableLine
+key-table-good (got l at) r s e h = let x : keySectionsOf l ≡ s = cc in ap keyCountsLine (sym x)
+key-table-good (bad g) r s e h = let z : _≡_ {A = ℕ} 0 1 = cc in absurd (omega arith)
+
+pub key-table-bad : (p : Parsed KeyLaid) (r : KeyLoaded) (f : Fault) (line : Line) → r ≡ keyLoadedOf p → r ≡ keyLoaded.Bad f → line ≡ faultLine f → line ≡ keyTableLine p
+unfolding keyTableLine
+key-table-bad (got l at) r f line e h q = let z : _≡_ {A = ℕ} 0 1 = cc in absurd (omega arith)
+key-table-bad (bad g) r f line e h q = let x : f ≡ g = cc in q ∙ ap faultLine x
 
 -- ---- requests
 pub request-good : (p : Parsed table.Laid) (r : Loaded) (s : Sections) (b : List ℕ) → r ≡ loadedOf p → r ≡ loaded.Good s → wholeLine wrongRequest (readRequest (s .spaces .count) b) ≡ requestLine p b

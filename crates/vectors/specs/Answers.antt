@@ -19,6 +19,10 @@ faultNumber kind.Version = 7
 abbrev pub wrongRequest : ℕ
 wrongRequest = 8
 
+-- Denied: the rules give the subject no access.
+abbrev pub denied : ℕ
+denied = 11
+
 -- Not a derivation: malformed, or does not hold.
 abbrev pub notADerivation : ℕ
 notADerivation = 12

@@ -8,6 +8,7 @@ use Rattle.records.specs.DerivationBytes as derivation
 use Rattle.records.specs.Parsed.{Parsed, got, bad}
 use Rattle.records.specs.Requests.{readRequest}
 use Rattle.records.specs.declared.faults.Fault.{Fault}
+use Rattle.table.specs.ReadKeyTable.{KeyLaid}
 use Rattle.table.specs.ReadTable as table
 use Rattle.vectors.specs.Answers.{good, faultNumber, wrongRequest, notADerivation}
 use Rattle.vectors.specs.declared.lines.Line.{Line}
@@ -21,6 +22,11 @@ faultLine e = Two (faultNumber (e .kind)) (e .place .offset)
 unfoldable pub tableLine : Parsed table.Laid → Line
 tableLine (got l at) = Five good (length (l .spaces .records)) (length (l .bindings .records)) (length (l .accesses .records)) (length (l .delegations .records))
 tableLine (bad e) = faultLine e
+
+-- A key table: its counts, or its fault.
+unfoldable pub keyTableLine : Parsed KeyLaid → Line
+keyTableLine (got l at) = Three good (length (l .accesses .records)) (length (l .delegations .records))
+keyTableLine (bad e) = faultLine e
 
 -- Whether something was read: the number of a good answer, or this one.
 unfoldable pub wholeLine : {A : Type 0} → ℕ → Option A → Line

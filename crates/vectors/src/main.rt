@@ -6,7 +6,9 @@ mod answers;
 mod checks;
 mod derivations;
 mod input;
+mod key_decisions;
 mod key_requests;
+mod key_tables;
 mod lines;
 mod requests;
 mod sheets;
@@ -18,9 +20,11 @@ fn answer_case(kind: u8) -> bool {
         1 => tables::answer(),
         2 => requests::answer(),
         3 => derivations::answer(),
+        4 => key_tables::answer(),
         5 => key_requests::answer(),
         6 => sheets::answer(),
         11 => checks::answer(),
+        13 => key_decisions::answer(),
         _ => stopped(b"no such kind"),
     }
 }

@@ -31,6 +31,13 @@ pub fn group(name: &str) -> Option<Vec<Case>> {
     }
 }
 
+/// The rows that are of these kinds.
+pub fn of_kinds(rows: Vec<Case>, kinds: &[Kind]) -> Vec<Case> {
+    let mut rows = rows;
+    rows.retain(|case| kinds.contains(&case.kind));
+    rows
+}
+
 /// Names: every row of name sheets.
 pub fn names() -> Vec<Case> {
     names::rows()

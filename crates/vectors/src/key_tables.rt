@@ -1,0 +1,36 @@
+// Kind 4: reads a key table.
+ghost use mathlib.Core.Path.{_≡_};
+ghost use Rattle.table.specs.ReadKeyTable.{readKeyTable};
+ghost use Rattle.vectors.specs.Lines.{keyTableLine};
+use crate::answers::GOOD;
+use crate::answers::fault_line;
+use crate::input::Part;
+use crate::input::read_part;
+use crate::lines::Line;
+use crate::lines::write_line;
+use keytable::KeyLoaded;
+use keytable::load_key_table;
+
+// The line of a key table: how many records of each kind it has, or its fault.
+fn line_of(bytes: &[u8]) -> Line
+    ensures { λ r. ⌜ r ≡ keyTableLine (readKeyTable (now (bytes .entry))) ⌝ }
+{
+    match load_key_table(bytes) {
+        KeyLoaded::Good(sections) => {
+            let accesses = sections.accesses;
+            let delegations = sections.delegations;
+            Line::Three(GOOD, accesses.count, delegations.count)
+        }
+        KeyLoaded::Bad(fault) => fault_line(fault),
+    }
+}
+
+// Answers the case, and says whether to go on.
+pub fn answer() -> bool {
+    let mut buffer = io::large_buffer();
+    let Part::Whole(length) = read_part(&mut buffer) else {
+        return false;
+    };
+    write_line(line_of(&buffer[..length]));
+    true
+}
