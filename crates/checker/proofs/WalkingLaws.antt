@@ -26,10 +26,9 @@ use Rattle.records.specs.declared.fields.Field.{Field}
 use Rattle.records.specs.declared.fields.Field.the-variants as asField
 use Rattle.records.proofs.ManyLaws.{Left, left-start, left-on}
 use Rattle.table.specs.ReadTable.{tableAt}
-use Rattle.table.proofs.FindingLaws.{space-here}
-use Rattle.sheet.proofs.FindsLaws.{space-has, leads-one}
+use Rattle.sheet.proofs.FindsLaws.{own-key, leads-one}
 use Rattle.sheet.proofs.MeaningLaws.{index-spaces}
-use Rattle.matching.specs.Matching.{told, GivesTo, HandsOn, Gives, to, notGiven, Hands, on, notHanded, Held}
+use Rattle.matching.specs.Matching.{told, GivesTo, HandsOn, Gives, to, notGiven, Hands, Held}
 use Rattle.matching.proofs.MatchingLaws.{gives-to, gives-none, hands-on, hands-none}
 use Rattle.matching.specs.declared.Given.{Given}
 use Rattle.matching.specs.declared.Given.the-variants as asGiven
@@ -57,9 +56,7 @@ module _ (s keys names accesses delegations : List ℕ) (held : Held s keys name
     writer-below = omega (arith, hands .writes .isSelf .at .there, index-spaces (tableAt s .names) keys names (held .index))
 
     writer-self : IsSelf (tableAt s .names .spaces) S (record { 0 = getD keys (S .0) 0 })
-    writer-self =
-        let m : Key = record { 0 = getD keys (S .0) 0 } in
-        subst (λ (l : List Key). IsSelf l S m) (held .index .spaces) (space-has S (space-here keys m (S .0) writer-below refl) refl)
+    writer-self = own-key (tableAt s .names) keys names (held .index) S writer-below
 
     same-writer : {m : Key} {b : ℕ} (w : StepTo (tableAt s) sheet q j holder a m b) → w .name .space ≡ S
     same-writer w = ap (λ (x : Delegation). x .writer) (at-one (w .writes .at) (hands .writes .at))

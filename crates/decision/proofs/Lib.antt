@@ -4,3 +4,7 @@ pub mod SettlingLaws
 pub mod ShowingLaws
 pub mod DerivingLaws
 pub mod WritingLaws
+pub mod ListedLaws
+pub mod DecidingLaws
+pub mod AnswersLaws
+pub mod Theorems

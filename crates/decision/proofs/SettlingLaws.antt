@@ -4,11 +4,11 @@ use mathlib.Core.List.{List}
 use Prim.Native.Nat.{ℕ, zero, suc, _+_, _<_, _≤_}
 use native.Mathlib.Omega.{arith}
 use native.Mathlib.Decide.{ℕ-discrete}
-use lib.ListN.{length, drop, set, length-set}
-use lib.Seq.{ext-getD, getD-set-same, getD-set-other}
+use lib.ListN.{length, drop, set, length-set, take, replicate, length-replicate}
+use lib.Seq.{ext-getD, getD-set-same, getD-set-other, length-take-le}
 use Rattle.rules.specs.Tables.{Asked}
 use Rattle.rules.specs.Depths.{top}
-use Rattle.rules.specs.Ranges.{mostDelegations}
+use Rattle.rules.specs.Ranges.{mostDelegations, mostSpaces}
 use Rattle.rules.specs.Sheets.{entry}
 use Rattle.rules.specs.Access.{Setting, settingBy}
 use Rattle.rules.specs.Verdicts.{Has}
@@ -118,3 +118,20 @@ lent-copy start copy by e c h = record { codes = λ v. omega (arith, ap (λ (l :
 
 pub reached-copy : (from to depths start copy best by : List ℕ) → copy ≡ start → Reached from to depths copy best by → Reached from to depths start best by
 reached-copy from to depths start copy best by e w = subst (λ (l : List ℕ). Reached from to depths l best by) e w
+
+-- ---- the first part of a row of nothing but 0
+pub row-part : (n : ℕ) → n ≤ mostSpaces → n + 1 ≡ length (take (n + 1) (replicate {A = ℕ} 65 0))
+row-part n h = sym (length-take-le (n + 1) (replicate {A = ℕ} 65 0) (omega (arith, h, length-replicate {A = ℕ} 65 0)))
+
+pub row-size : (n : ℕ) → n ≤ mostSpaces → length (take (n + 1) (replicate {A = ℕ} 65 0)) ≡ suc n
+row-size n h = omega (arith, row-part n h)
+
+pub row-zeros : (n m : ℕ) → Zeros (take n (replicate {A = ℕ} m 0))
+row-zeros n m = record { zero = λ v. go n m v }
+  where
+    go : (n m v : ℕ) → entry (take n (replicate {A = ℕ} m 0)) v ≡ 0
+    go zero zero v = refl
+    go zero (suc m) v = refl
+    go (suc n) zero v = refl
+    go (suc n) (suc m) zero = refl
+    go (suc n) (suc m) (suc v) = go n m v

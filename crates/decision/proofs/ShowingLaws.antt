@@ -1,12 +1,12 @@
 -- What is marked of a derivation's records, path by path.
 use mathlib.Core.Path.{_≡_, refl, sym, _∙_, ap, subst}
 use mathlib.Core.Logic.{_⊎_, inl, inr}
-use mathlib.Core.Bool.{Bool, true}
+use mathlib.Core.Bool.{Bool, true, false}
 use mathlib.Core.List.{List, [], _∷_}
-use Prim.Native.Nat.{ℕ, _+_, _<_, _≤_}
+use Prim.Native.Nat.{ℕ, zero, suc, _+_, _<_, _≤_}
 use native.Mathlib.Numerals.{add-one}
 use native.Mathlib.Omega.{arith}
-use lib.ListN.{length, take}
+use lib.ListN.{length, take, replicate}
 use lib.Seq.{take-suc, take-all}
 use Rattle.rules.specs.Lists.{At, _▷_, In}
 use Rattle.rules.specs.Tables.{Path, Target, AccessRecord, Delegation, Table}
@@ -153,3 +153,12 @@ all-marked t subject access c L m₀ m₁ m₂ m₃ m₄ z s a k n = record {
     four : (b : ℕ) → (marked m₃ b ≡ true) ⊎ ((m : ℕ) × In L m × Wanted (t .names) m₄ m b) → Reason t subject access c L m₄ b
     four b (inl h) = three b (k .only b h)
     four b (inr (m, i, w)) = forBinding m i w
+
+-- ---- nothing is marked yet
+unmarked : (n i : ℕ) → marked (replicate n false) i ≡ true → ⊥
+unmarked zero i e = let z : _≡_ {A = ℕ} 0 1 = cc e in absurd (omega arith)
+unmarked (suc n) zero e = let z : _≡_ {A = ℕ} 0 1 = cc e in absurd (omega arith)
+unmarked (suc n) (suc i) e = unmarked n i e
+
+pub blank-marks : (n : ℕ) → Unmarked (replicate n false)
+blank-marks n = record { none′ = λ i e. unmarked n i e }

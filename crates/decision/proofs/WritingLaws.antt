@@ -2,7 +2,7 @@
 use mathlib.Core.Path.{_≡_, refl, sym, _∙_, ap, subst}
 use mathlib.Core.Bool.{Bool}
 use mathlib.Core.List.{List, [], _∷_, _++_}
-use Prim.Native.Nat.{ℕ, suc, _+_, _*_, _/_, _<_, _≤_, _^_}
+use Prim.Native.Nat.{ℕ, suc, _+_, _*_, _/_, _<_, _≤_}
 use native.Mathlib.Numerals.{add-one}
 use native.Mathlib.Omega.{arith}
 use lib.ListN.{length, take, length-append}
@@ -90,14 +90,14 @@ module _ (bindings chain : List ℕ) (access : ℕ) (few : length bindings ≤ m
   pub it-fits : (out : List ℕ) → 512 ≤ length out → (a + b) + (c + d + e) ≤ 512 → length (derivationBytes this) ≤ length out
   it-fits out r h = omega (arith, is-size)
 
+  pub wrote-it : (before after : List ℕ) (n : ℕ) → (a + b) + (c + d + e) ≤ 512 → (n ≡ length (derivationBytes this)) × (after ≡ placed before 0 (derivationBytes this)) → WritesDerivation this before after (written.Bytes n)
+  wrote-it before after n h (x, y) = subst (λ (m : ℕ). WritesDerivation this before after (written.Bytes m)) (sym x) (bytes (omega (arith, is-size)) y)
+
 pub listing-fits : (bindings : List ℕ) → length bindings ≤ mostBindings → (n a b : ℕ) → a ≡ length (bytesOf n) → b ≡ length (manyBytes bytesOf bindings) → a + b ≤ 1285
 listing-fits bindings few n a b p q = omega (arith, p, bytes-short n, q, many-short bindings, few)
 
 pub ending-fits : (m n c d : ℕ) → c ≡ length (bytesOf m) → d ≡ length (bytesOf n) → c + d ≤ 10
 ending-fits m n c d p q = omega (arith, p, bytes-short m, q, bytes-short n)
-
-pub wrote-it : (v : Derivation) (before after : List ℕ) (n : ℕ) → (n ≡ length (derivationBytes v)) × (after ≡ placed before 0 (derivationBytes v)) → WritesDerivation v before after (written.Bytes n)
-wrote-it v before after n (e, w) = subst (λ (m : ℕ). WritesDerivation v before after (written.Bytes m)) (sym e) (bytes w)
 
 -- ---- with the marked ones kept
 pub kept-writes : (marks : List Bool) (order kept : List ℕ) (listed n access : ℕ) (chain before after : List ℕ) (r : Written) → Kept marks order listed kept n

@@ -2,7 +2,7 @@
 use mathlib.Core.Path.{_≡_}
 use mathlib.Core.Bool.{Bool}
 use mathlib.Core.List.{List}
-use Prim.Native.Nat.{ℕ, _<_}
+use Prim.Native.Nat.{ℕ, _<_, _≤_}
 use lib.ListN.{length, take}
 use Rattle.rules.specs.Lists.{keep}
 use Rattle.rules.specs.Derivations.{Derivation}
@@ -18,5 +18,5 @@ derivationOf marks order listed access chain = record { bindings = keep (marked 
 
 -- Its bytes stand at the buffer's start, and every later byte is as it was; or it is too long, and the buffer is as it was.
 pub data WritesDerivation (v : Derivation) (before after : List ℕ) : Written → Type 0 where
-  bytes : after ≡ placed before 0 (derivationBytes v) → WritesDerivation v before after (written.Bytes (length (derivationBytes v)))
+  bytes : length (derivationBytes v) ≤ mostDerivation → after ≡ placed before 0 (derivationBytes v) → WritesDerivation v before after (written.Bytes (length (derivationBytes v)))
   overrun : mostDerivation < length (derivationBytes v) → after ≡ before → WritesDerivation v before after written.Overrun

@@ -4,7 +4,6 @@ use mathlib.Core.List.{List}
 use mathlib.Core.Option.{Option, none, some}
 use Prim.Native.Nat.{ℕ, zero, suc, _-_, _≤_}
 use native.Mathlib.Omega.{arith}
-use borrow.Author.Tests.{le-leb}
 use Rattle.rules.specs.Depths.{top, made}
 use Rattle.rules.specs.KeyTables.{KeyTable, KeyRequest}
 use Rattle.rules.specs.Verdicts.{DecidesByKeys}
@@ -18,6 +17,7 @@ use Rattle.records.specs.declared.requests.KeyRequest.{KeyRequest as KeyRequest
 use Rattle.records.specs.declared.requests.KeyRequestRead.{KeyRequestRead}
 use Rattle.records.specs.declared.requests.KeyRequestRead.the-variants as asked
 use Rattle.table.specs.ReadKeyTable.{KeyLaid, keyTableOf, readKeyTable}
+use Rattle.reach.proofs.CodesLaws.{code-depth}
 use Rattle.keytable.specs.Loading.{keyTableAt}
 use Rattle.keytable.specs.Matching.{keyRequestOf}
 use Rattle.keytable.specs.Deciding.{KeyDecides, denied, granted}
@@ -39,18 +39,10 @@ asked-some (some x) r v a b = let q : v ≡ keyRequestValue x = cc in ap some (s
 pub code-denied : (c : ℕ) → c ≡ 0 → answer.Denied ≡ answerOf c
 code-denied c e = ap answerOf (sym e)
 
-module _ (c : ℕ) (some : c ≡ 0 → ⊥) (most : c ≤ suc top) (m : Made) (is : m ≡ made (c - 1)) where
-  made-good : m ≡ made.Good (record { 0 = c - 1 })
-  made-good = is ∙ rw (le-leb (c - 1) top (omega arith)) refl
-
-  pub code-granted : (d : Depth) → m ≡ made.Good d → answer.Granted d ≡ answerOf c
-  code-granted d e =
-      let q : d ≡ record { 0 = c - 1 } = cc (sym e ∙ made-good) in
-      let p : suc (c - 1) ≡ c = omega arith in
-      ap answer.Granted q ∙ ap answerOf p
-
-  pub code-fits : m ≡ made.TooDeep → ⊥
-  code-fits e = let q = sym e ∙ made-good in let z : _≡_ {A = ℕ} 0 1 = cc q in absurd (omega arith)
+pub code-granted : (c : ℕ) → (c ≡ 0 → ⊥) → c ≤ suc top → (m : Made) → m ≡ made (c - 1) → (d : Depth) → m ≡ made.Good d → answer.Granted d ≡ answerOf c
+code-granted c any most m is d e =
+    let p : suc (c - 1) ≡ c = omega arith in
+    ap answer.Granted (code-depth c any most m is d e) ∙ ap answerOf p
 
 -- ---- the decision
 pub settles : (table asks : List ℕ) (l : KeyLaid) (end : ℕ) → readKeyTable table ≡ got l end → (r : KeyRequest) → readKeyRequest asks ≡ some r

@@ -1,2 +1,3 @@
 pub mod MatchingLaws
 pub mod HeldLaws
+pub mod AskedLaws

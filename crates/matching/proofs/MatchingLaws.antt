@@ -32,11 +32,11 @@ use Rattle.records.proofs.RecordsForm.{access-walks, delegation-walks}
 use Rattle.table.specs.ReadTable.{tableAt}
 use Rattle.table.specs.Kept.{Standing}
 use Rattle.table.proofs.LoadingLaws.{rest, there-back}
-use Rattle.table.proofs.FindingLaws.{at-below, space-here}
+use Rattle.table.proofs.FindingLaws.{at-below}
 use Rattle.sheet.specs.Finds.{Finds, Fitting}
 use Rattle.sheet.specs.declared.following.Followed.{Followed}
 use Rattle.sheet.specs.declared.following.Followed.the-variants as followed
-use Rattle.sheet.proofs.FindsLaws.{space-has, finds-key, finds-none, leads-one}
+use Rattle.sheet.proofs.FindsLaws.{own-key, finds-key, finds-none, leads-one}
 use Rattle.sheet.proofs.MeaningLaws.{path-fits, path-back, index-spaces}
 use Rattle.matching.specs.Matching.{told, askedOf, GivesTo, HandsOn, Gives, to, notGiven, Hands, on, notHanded, Held}
 use Rattle.matching.specs.declared.Given.{Given}
@@ -258,9 +258,7 @@ module _ (s keys names accesses delegations : List ℕ) (held : Held s keys name
 
           module _ (m : Key) (g : a ≡ followed.Key m) (low : owner .0 < length keys) where
             owner-self : IsSelf (tableAt s .names .spaces) owner (record { 0 = getD keys (owner .0) 0 })
-            owner-self =
-                let k : Key = record { 0 = getD keys (owner .0) 0 } in
-                subst (λ (l : List Key). IsSelf l owner k) (held .index .spaces) (space-has owner (space-here keys k (owner .0) low refl) refl)
+            owner-self = own-key (tableAt s .names) keys names (held .index) owner low
 
             pub owner-other : (m .0 ≡ getD keys (owner .0) 0 → ⊥) → DelegationHands asHanded.Nothing
             owner-other f =
@@ -284,8 +282,7 @@ module _ (s keys names accesses delegations : List ℕ) (held : Held s keys name
                 path = y .delegateePath;
                 writer = record { 0 = getD keys (v .writer .0) 0 };
                 writes = record {
-                  isSelf = subst (λ (l : List Key). IsSelf l (v .writer) (record { 0 = getD keys (v .writer .0) 0 })) (held .index .spaces)
-                      (space-has (v .writer) (space-here keys (record { 0 = getD keys (v .writer .0) 0 }) (v .writer .0) writer-fits refl) refl);
+                  isSelf = own-key (tableAt s .names) keys names (held .index) (v .writer) writer-fits;
                   ownerPath = y .ownerPath;
                   at = at;
                   ownerKey = record { 0 = getD keys (owner .0) 0 };

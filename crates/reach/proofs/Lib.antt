@@ -3,3 +3,4 @@ pub mod StepLaws
 pub mod RoundsLaws
 pub mod GraphsLaws
 pub mod TracingLaws
+pub mod CodesLaws

@@ -1,7 +1,8 @@
 -- Readers that follow one another, taken apart.
-use mathlib.Core.Path.{_≡_, refl, _∙_, ap}
+use mathlib.Core.Path.{_≡_, refl, sym, _∙_, ap}
 use mathlib.Core.Logic.{_⊎_, inl, inr}
 use mathlib.Core.List.{List}
+use mathlib.Core.Option.{Option, none, some, Option·some-injective}
 use Prim.Native.Nat.{ℕ, _+_}
 use native.Mathlib.Omega.{arith}
 use Rattle.records.specs.Parsed.{Parsed, got, bad, Reader, _⟫_, _⊗_, mapped, movedBy}
@@ -76,3 +77,20 @@ module _ {A B : Type 0} (f : A → B) (P : Reader A) (s : List ℕ) (at : ℕ) w
   pub mapped-bad : {e : Fault} → P s at ≡ bad e → mapped f P s at ≡ bad e
   unfolding mapped _⟫_
   mapped-bad a = rw a
+
+-- ---- what was read is good or faulty, something or nothing, and one
+module _ {A : Type 0} where
+  pub got-or-bad : {p : Parsed A} {x : A} {n : ℕ} {f : Fault} → p ≡ got x n → p ≡ bad f → ⊥
+  got-or-bad {x = x} {n = n} {f = f} e h = let w : _≡_ {A = Parsed A} (got x n) (bad f) = sym e ∙ h in let z : _≡_ {A = ℕ} 0 1 = cc w in absurd (omega arith)
+
+  pub some-or-none : {p : Option A} {x : A} → p ≡ some x → p ≡ none → ⊥
+  some-or-none {x = x} e h = let w : _≡_ {A = Option A} (some x) none = sym e ∙ h in let z : _≡_ {A = ℕ} 0 1 = cc w in absurd (omega arith)
+
+  pub got-one : {p : Parsed A} {x y : A} {n m : ℕ} → p ≡ got x n → p ≡ got y m → x ≡ y
+  got-one {x = x} {y = y} {n = n} {m = m} e h = let w : _≡_ {A = Parsed A} (got x n) (got y m) = sym e ∙ h in cc w
+
+  pub bad-one : {p : Parsed A} {f g : Fault} → p ≡ bad f → p ≡ bad g → f ≡ g
+  bad-one {f = f} {g = g} e h = let w : _≡_ {A = Parsed A} (bad f) (bad g) = sym e ∙ h in cc w
+
+  pub some-one : {p : Option A} {x y : A} → p ≡ some x → p ≡ some y → x ≡ y
+  some-one {x = x} {y = y} e h = Option·some-injective x y (sym e ∙ h)

@@ -1,5 +1,5 @@
 -- A record that stands in the table, read again by its number, and the keys that it gets.
-use mathlib.Core.Path.{_≡_, refl, sym, _∙_, ap, subst}
+use mathlib.Core.Path.{_≡_, sym, _∙_, ap, subst}
 use mathlib.Core.Logic.{_↔_}
 use mathlib.Core.List.{List}
 use mathlib.Core.Option.{none, some}
@@ -32,11 +32,11 @@ use Rattle.records.proofs.RecordsForm.{access-walks, delegation-walks}
 use Rattle.table.specs.ReadTable.{tableAt}
 use Rattle.table.specs.Kept.{Standing}
 use Rattle.table.proofs.LoadingLaws.{rest}
-use Rattle.table.proofs.FindingLaws.{at-below, space-here}
+use Rattle.table.proofs.FindingLaws.{at-below}
 use Rattle.sheet.specs.Finds.{Finds, key, nothing}
 use Rattle.sheet.specs.declared.following.Followed.{Followed}
 use Rattle.sheet.specs.declared.following.Followed.the-variants as followed
-use Rattle.sheet.proofs.FindsLaws.{space-has, finds-key, finds-none}
+use Rattle.sheet.proofs.FindsLaws.{own-key, finds-key, finds-none}
 use Rattle.sheet.proofs.MeaningLaws.{path-back, index-spaces}
 use Rattle.matching.proofs.MatchingLaws.{stands-back}
 use Rattle.translation.specs.Becoming.{AccessBecomes, DelegationBecomes, Keyed, becomes, Ready}
@@ -66,11 +66,10 @@ module _ (s keys names accesses delegations sheet : List ℕ) (ready : Ready s k
       (subst (λ (q : Path). Finds (Leads S q) r) (ap pathOf f ∙ path-back p (g .short)) (subst (λ (U : Space). Finds (Leads U (pathOf v)) r) e w))
 
   -- A space's key is kept by its number.
-  own-key : (S T : Space) → T ≡ S → S .0 < length (tableAt s .names .spaces) → IsSelf (tableAt s .names .spaces) S (record { 0 = getD keys (T .0) 0 })
-  own-key S T e h =
-      let k : Key = record { 0 = getD keys (T .0) 0 } in
-      subst (λ (l : List Key). IsSelf l S k) (ready .held .index .spaces)
-      (space-has S (space-here keys k (S .0) (omega (arith, h, index-spaces (tableAt s .names) keys names (ready .held .index))) (ap (λ (U : Space). getD keys (U .0) 0) (sym e))) refl)
+  kept-key : (S T : Space) → T ≡ S → S .0 < length (tableAt s .names .spaces) → IsSelf (tableAt s .names .spaces) S (record { 0 = getD keys (T .0) 0 })
+  kept-key S T e h =
+      subst (λ (U : Space). IsSelf (tableAt s .names .spaces) S (record { 0 = getD keys (U .0) 0 })) (sym e)
+      (own-key (tableAt s .names) keys names (ready .held .index) S (omega (arith, h, index-spaces (tableAt s .names) keys names (ready .held .index))))
 
   -- ---- access records
   module _ (i : ℕ) (h : i < length (tableAt s .accesses)) (r : AccessRead) (found : r ≡ accessRead (accessRecord (length keys) (rest s (getD accesses i 0)) 0)) where
@@ -99,7 +98,7 @@ module _ (s keys names accesses delegations sheet : List ℕ) (ready : Ready s k
         from = listed .0;
         at = listed .1;
         keys = record {
-          owner = own-key (listed .0 .owner) (v .owner) (ap (λ (u : Access). u .owner) is) (ready .held .good .accesses i (listed .0) (listed .1) .owner);
+          owner = kept-key (listed .0 .owner) (v .owner) (ap (λ (u : Access). u .owner) is) (ready .held .good .accesses i (listed .0) (listed .1) .owner);
           object = sym (ap (λ (u : Access). u .wanted .object) is);
           right = sym (ap (λ (u : Access). u .wanted .right) is);
           subject = finds-key subject-meant g;
@@ -149,7 +148,7 @@ module _ (s keys names accesses delegations sheet : List ℕ) (ready : Ready s k
           from = written .0;
           at = written .1;
           keys = record {
-            writer = own-key (written .0 .writer) (v .writer) (ap (λ (u : DelegationValue). u .writer) its) (ready .held .good .delegations i (written .0) (written .1) .writer);
+            writer = kept-key (written .0 .writer) (v .writer) (ap (λ (u : DelegationValue). u .writer) its) (ready .held .good .delegations i (written .0) (written .1) .writer);
             owner = finds-key owner-meant f;
             object = sym (ap (λ (u : DelegationValue). u .wanted .object) its);
             right = sym (ap (λ (u : DelegationValue). u .wanted .right) its);

@@ -13,8 +13,8 @@ use Rattle.rules.proofs.Theorems.Translation.{a-table-has-one-translation}
 use Rattle.wire.specs.Number.{Bytes}
 use Rattle.wire.specs.Placed.{placed}
 use Rattle.wire.proofs.PlacedLaws.{placed-take}
-use Rattle.records.specs.Parsed.{Parsed, got, bad}
-use Rattle.records.specs.declared.faults.Fault.{Fault}
+use Rattle.records.specs.Parsed.{got}
+use Rattle.records.proofs.ParsedLaws.{got-or-bad, got-one, bad-one}
 use Rattle.table.specs.ReadTable.{Laid, tableOf, readTable}
 use Rattle.table.specs.ReadKeyTable.{KeyLaid, keyTableOf, readKeyTable, keyTableBytes}
 use Rattle.table.proofs.Theorems.{table-form, key-table-reads}
@@ -24,13 +24,9 @@ use Rattle.translation.specs.declared.Translated.{Translated}
 use Rattle.translation.specs.declared.Translated.the-variants as translated
 use Rattle.translation.proofs.GoodLaws.{translation-good}
 
-got-or-bad : {A : Type 0} {p : Parsed A} {x : A} {n : ℕ} {f : Fault} → p ≡ got x n → p ≡ bad f → ⊥
-got-or-bad {A} {p} {x} {n} {f} e h = let w : _≡_ {A = Parsed A} (got x n) (bad f) = sym e ∙ h in let z : _≡_ {A = ℕ} 0 1 = cc w in absurd (omega arith)
-
 -- TWO ANSWERS THAT MEET THE PROMISE ARE EQUAL, and so is what the buffer holds.
 pub translation-one : (table before : List ℕ) → Bytes table → {a b : Translated} {x y : List ℕ} → Answers table before a x → Answers table before b y → (a ≡ b) × (x ≡ y)
-translation-one table before bytes (badTable {f = f} e) (badTable {f = g} h) =
-    let w : _≡_ {A = Parsed Laid} (bad f) (bad g) = sym e ∙ h in let q : f ≡ g = cc w in (ap translated.BadTable q, refl)
+translation-one table before bytes (badTable e) (badTable h) = (ap translated.BadTable (bad-one e h), refl)
 translation-one table before bytes (badTable e) (room h r) = absurd (got-or-bad h e)
 translation-one table before bytes (badTable e) (done h r k) = absurd (got-or-bad h e)
 translation-one table before bytes (room e r) (badTable h) = absurd (got-or-bad e h)
@@ -39,8 +35,7 @@ translation-one table before bytes (room e r) (done h s k) = absurd (omega (arit
 translation-one table before bytes (done e r k) (badTable h) = absurd (got-or-bad e h)
 translation-one table before bytes (done e r k) (room h s) = absurd (omega (arith, r, s))
 translation-one table before bytes (done {l = l} {end = n} {K = K} e r k) (done {l = m} {end = i} {K = L} h s j) =
-    let w : _≡_ {A = Parsed Laid} (got l n) (got m i) = sym e ∙ h in
-    let q : l ≡ m = cc w in
+    let q : l ≡ m = got-one e h in
     let p : K ≡ L = a-table-has-one-translation (tableOf l) (table-form table l n bytes e .1) K L k (subst (λ (z : Laid). Translates (Means (tableOf z .names)) (tableOf z) L) (sym q) j) in
     (ap (λ (z : KeyTable). translated.Done (length (keyTableBytes z))) p, ap (λ (z : KeyTable). placed before 0 (keyTableBytes z)) p)
 

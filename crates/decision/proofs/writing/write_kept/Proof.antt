@@ -51,7 +51,7 @@ same-length : tie.Need-same-length
 same-length c = search needs
 
 returns-2 : tie.Need-returns-2
-returns-2 c = wrote-it _ _ _ _ (c .before .before .write-derivation .ensures)
+returns-2 c = wrote-it (c .before .before .before .before .before .before .before .before .before .before .before .before .before .args .bindings .now) (c .before .before .before .before .before .before .before .before .before .before .before .before .before .args .chain .now) (c .before .before .before .before .before .before .before .before .before .before .before .before .before .args .access) (c .before .before .before .before .before .before .before .before .before .before .before .before .before .pre .0) (c .before .before .before .before .before .before .before .before .before .before .before .before .before .pre .1) _ _ _ _ _ (c .before .before .before .before .before .before .before .before .before .size-of .ensures) (c .before .before .before .before .before .before .before .before .size-of-all .ensures) (c .before .before .before .before .before .before .before .size-of2 .ensures) (c .before .before .before .before .before .before .size-of3 .ensures) (c .before .before .before .before .before .size-of-all2 .ensures) _ _ _ (c .before .before .before .before .if1 .left) (c .before .before .write-derivation .ensures)
 
 pub write-kept-spec : {M : Type 1} → statement M
 write-kept-spec =

@@ -1,5 +1,6 @@
 -- `answer_of` gives a code its depth, which is one less.
-use Rattle.keytable.proofs.DecidingLaws.{code-granted, code-fits}
+use Rattle.reach.proofs.CodesLaws.{code-fits}
+use Rattle.keytable.proofs.DecidingLaws.{code-granted}
 use borrow.Author.Needs.{needs}
 use Rattle.keytable.proofs.deciding.answer_of.Statement.{statement}
 use Rattle.keytable.proofs.deciding.answer_of.Tie as tie
