@@ -73,15 +73,15 @@ fn show(
     write_shown(&marks, order, listed, access as u16, chain, derivation)
 }
 
-// The answer that the code of a depth and what was written stand for.
-fn answer_of(code: u8, written: Written) -> Decided
-    requires { ⌜ code ≤ suc top ⌝ }
-    ensures { λ r. ⌜ r ≡ answerOf code written ⌝ }
+// The answer that the greatest code and what was written stand for.
+fn answer_of(best: u8, written: Written) -> Decided
+    requires { ⌜ best ≤ suc top ⌝ }
+    ensures { λ r. ⌜ r ≡ answerOf best written ⌝ }
 {
-    if code == 0 {
+    if best == 0 {
         return Decided::Denied;
     }
-    let made = Depth::new(code as u32 - 1);
+    let made = Depth::new(best as u32 - 1);
     let Made::Good(depth) = made else {
         return Decided::Denied;
     };
