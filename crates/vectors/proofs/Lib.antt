@@ -1,5 +1,7 @@
 -- Laws of answer lines.
 pub mod ChecksLaws
+pub mod Examples
+pub mod HashesLaws
 pub mod KeyDecisionsLaws
 pub mod LinesLaws
 pub mod PartsLaws

@@ -1,6 +1,7 @@
 -- What the answer lines say.
 pub mod Answers
 pub mod Checks
+pub mod Hashes
 pub mod KeyDecisions
 pub mod Lines
 pub mod Parts

@@ -5,6 +5,7 @@ use libc::STDIN_FILENO;
 mod answers;
 mod checks;
 mod derivations;
+mod hashes;
 mod input;
 mod key_decisions;
 mod key_requests;
