@@ -6,3 +6,4 @@ pub mod KeyDecisionsLaws
 pub mod LinesLaws
 pub mod PartsLaws
 pub mod SheetsLaws
+pub mod TranslationsLaws

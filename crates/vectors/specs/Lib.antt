@@ -6,3 +6,4 @@ pub mod KeyDecisions
 pub mod Lines
 pub mod Parts
 pub mod Sheets
+pub mod Translations

@@ -10,6 +10,8 @@ pub const GOOD: usize = 0;
 
 pub const WRONG_REQUEST: usize = 8;
 
+pub const NO_ROOM: usize = 9;
+
 pub const DENIED: usize = 11;
 
 pub const NOT_A_DERIVATION: usize = 12;
