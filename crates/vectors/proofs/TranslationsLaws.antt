@@ -6,8 +6,9 @@ use Rattle.records.specs.declared.faults.Fault.{Fault}
 use Rattle.translation.specs.Promise.{Answers}
 use Rattle.translation.specs.declared.Translated.{Translated}
 use Rattle.translation.specs.declared.Translated.the-variants as translated
-use Rattle.vectors.specs.Answers.{good, faultNumber, noRoom}
+use Rattle.vectors.specs.Answers.{good, noRoom}
 use Rattle.vectors.specs.Hashes.{hashOf}
+use Rattle.vectors.specs.Lines.{faultAnswer}
 use Rattle.vectors.specs.Translations.{translatedLine, TranslationLine, answered}
 use Rattle.vectors.specs.declared.lines.Line.{Line}
 use Rattle.vectors.specs.declared.lines.Line.the-variants.{Four}
@@ -15,8 +16,8 @@ use Rattle.vectors.specs.declared.lines.Line.the-variants.{Four}
 pub line-done : (r : Translated) (n : ℕ) → r ≡ translated.Done n → Four good 0 0 n ≡ translatedLine r
 line-done r n e = sym (ap translatedLine e)
 
-pub line-bad-table : (r : Translated) (f : Fault) (n : ℕ) → r ≡ translated.BadTable f → n ≡ faultNumber (f .kind) → Four n (f .place .offset) 0 0 ≡ translatedLine r
-line-bad-table r f n e q = ap (λ (n : ℕ). Four n (f .place .offset) 0 0) q ∙ sym (ap translatedLine e)
+pub line-bad-table : (r : Translated) (f : Fault) (line : Line) → r ≡ translated.BadTable f → line ≡ faultAnswer f → line ≡ translatedLine r
+line-bad-table r f line e q = q ∙ sym (ap translatedLine e)
 
 pub line-room : (r : Translated) → r ≡ translated.Room → Four noRoom 0 0 0 ≡ translatedLine r
 line-room r e = sym (ap translatedLine e)

@@ -4,15 +4,16 @@ use Prim.Native.Nat.{ℕ}
 use Rattle.translation.specs.Promise.{Answers}
 use Rattle.translation.specs.declared.Translated.{Translated}
 use Rattle.translation.specs.declared.Translated.the-variants as translated
-use Rattle.vectors.specs.Answers.{good, faultNumber, noRoom}
+use Rattle.vectors.specs.Answers.{good, noRoom}
 use Rattle.vectors.specs.Hashes.{hashOf}
+use Rattle.vectors.specs.Lines.{faultAnswer}
 use Rattle.vectors.specs.declared.lines.Line.{Line}
 use Rattle.vectors.specs.declared.lines.Line.the-variants.{Four}
 
 -- The numbers of an answer: its number, offset, depth and length. Those that it does not carry are 0.
 abbrev pub translatedLine : Translated → Line
 translatedLine (translated.Done n) = Four good 0 0 n
-translatedLine (translated.BadTable e) = Four (faultNumber (e .kind)) (e .place .offset) 0 0
+translatedLine (translated.BadTable e) = faultAnswer e
 translatedLine translated.Room = Four noRoom 0 0 0
 
 -- The line of an answer that the translation promises, and the hash of what the whole buffer holds then.

@@ -3,7 +3,7 @@ ghost use mathlib.Core.Path.{_≡_};
 ghost use Rattle.vectors.specs.Translations.{translatedLine, TranslationLine};
 use crate::answers::GOOD;
 use crate::answers::NO_ROOM;
-use crate::answers::number_of;
+use crate::answers::fault_answer;
 use crate::hashes::hash_of;
 use crate::input::Part;
 use crate::input::read_part;
@@ -19,11 +19,7 @@ fn translated_line(answer: Translated) -> Line
 {
     match answer {
         Translated::Done(length) => Line::Four(GOOD, 0, 0, length),
-        Translated::BadTable(fault) => {
-            let kind = fault.kind;
-            let place = fault.place;
-            Line::Four(number_of(kind) as usize, place.offset, 0, 0)
-        }
+        Translated::BadTable(fault) => fault_answer(fault),
         Translated::Room => Line::Four(NO_ROOM, 0, 0, 0),
     }
 }

@@ -10,11 +10,8 @@ enum-known-answer c = search needs
 enum-known-answer-2 : tie.Need-enum-known-answer-2
 enum-known-answer-2 c = search needs
 
-number-of-requires : tie.Need-number-of-requires
-number-of-requires c κs = search needs
-
-cast-t8 : tie.Need-cast-t8
-cast-t8 c = search needs
+fault-answer-requires : tie.Need-fault-answer-requires
+fault-answer-requires c κs = search needs
 
 enum-told : tie.Need-enum-told
 enum-told c = search needs
@@ -23,7 +20,7 @@ returns : tie.Need-returns
 returns c = line-done _ _ (c .before .answer .given .1)
 
 returns-2 : tie.Need-returns-2
-returns-2 c = line-bad-table _ _ _ (c .before .before .before .answer2 .given .1) (c .number-of .ensures)
+returns-2 c = line-bad-table _ _ _ (c .before .before .answer2 .given .1) (c .fault-answer .ensures)
 
 returns-3 : tie.Need-returns-3
 returns-3 c = line-room _ (c .enum-told .given .1)
@@ -34,8 +31,7 @@ translated-line-spec =
     (tie.spec
     enum-known-answer
     enum-known-answer-2
-    number-of-requires
-    cast-t8
+    fault-answer-requires
     enum-told
     returns
     returns-2
