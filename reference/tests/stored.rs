@@ -1,11 +1,11 @@
-//! The rows that are stored for the kernel's program are those made here.
+//! The cases that are stored for the kernel's program are those made here.
 
 mod common;
 
 use std::fs;
 
 use common::T;
-use reference::cases::{read_cases, write_case, Kind};
+use reference::cases::{make_case, read_cases, write_case, Kind};
 use reference::line::answer_line;
 use reference::rows;
 
@@ -16,13 +16,22 @@ fn stored(name: &str) -> Vec<u8> {
 }
 
 #[test]
-fn the_stored_cases_are_the_rows() {
+fn the_stored_cases_are_made_here() {
     let mut bytes = Vec::new();
     let by_keys = rows::of_kinds(
         rows::translating(),
         &[Kind::ReadKeyTable, Kind::DecideByKeys],
     );
-    for group in [rows::reading(), rows::names(), rows::checking(), by_keys] {
+    let translations = rows::of_kinds(rows::translating(), &[Kind::Translate]);
+    let made = (0..80).map(|index| make_case(12, index, &[Kind::Translate]));
+    for group in [
+        rows::reading(),
+        rows::names(),
+        rows::checking(),
+        by_keys,
+        translations,
+        made.collect(),
+    ] {
         for case in &group {
             write_case(&mut bytes, case);
         }

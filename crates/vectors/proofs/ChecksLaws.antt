@@ -7,16 +7,17 @@ use Rattle.records.specs.declared.faults.Fault.{Fault}
 use Rattle.checker.specs.Promise.{Checks}
 use Rattle.checker.specs.declared.Checked.{Checked}
 use Rattle.checker.specs.declared.Checked.the-variants as checked
-use Rattle.vectors.specs.Answers.{good, faultNumber, wrongRequest, notADerivation}
+use Rattle.vectors.specs.Answers.{good, wrongRequest, notADerivation}
 use Rattle.vectors.specs.Checks.{checkedLine, CheckLine, answered}
+use Rattle.vectors.specs.Lines.{faultAnswer}
 use Rattle.vectors.specs.declared.lines.Line.{Line}
 use Rattle.vectors.specs.declared.lines.Line.the-variants.{Four}
 
 pub line-accepted : (r : Checked) (d : Depth) (n : ℕ) → r ≡ checked.Accepted d → n ≡ d .0 → Four good 0 n 0 ≡ checkedLine r
 line-accepted r d n e q = ap (λ (n : ℕ). Four good 0 n 0) q ∙ sym (ap checkedLine e)
 
-pub line-bad-table : (r : Checked) (f : Fault) (n : ℕ) → r ≡ checked.BadTable f → n ≡ faultNumber (f .kind) → Four n (f .place .offset) 0 0 ≡ checkedLine r
-line-bad-table r f n e q = ap (λ (n : ℕ). Four n (f .place .offset) 0 0) q ∙ sym (ap checkedLine e)
+pub line-bad-table : (r : Checked) (f : Fault) (line : Line) → r ≡ checked.BadTable f → line ≡ faultAnswer f → line ≡ checkedLine r
+line-bad-table r f line e q = q ∙ sym (ap checkedLine e)
 
 pub line-bad-request : (r : Checked) → r ≡ checked.BadRequest → Four wrongRequest 0 0 0 ≡ checkedLine r
 line-bad-request r e = sym (ap checkedLine e)

@@ -7,16 +7,17 @@ use Rattle.records.specs.declared.faults.Fault.{Fault}
 use Rattle.keytable.specs.Deciding.{KeyDecides}
 use Rattle.keytable.specs.declared.KeyAnswer.{KeyAnswer}
 use Rattle.keytable.specs.declared.KeyAnswer.the-variants as answer
-use Rattle.vectors.specs.Answers.{good, faultNumber, wrongRequest, denied}
+use Rattle.vectors.specs.Answers.{good, wrongRequest, denied}
 use Rattle.vectors.specs.KeyDecisions.{keyAnswerLine, KeyDecisionLine, answered}
+use Rattle.vectors.specs.Lines.{faultAnswer}
 use Rattle.vectors.specs.declared.lines.Line.{Line}
 use Rattle.vectors.specs.declared.lines.Line.the-variants.{Four}
 
 pub line-granted : (r : KeyAnswer) (d : Depth) (n : ℕ) → r ≡ answer.Granted d → n ≡ d .0 → Four good 0 n 0 ≡ keyAnswerLine r
 line-granted r d n e q = ap (λ (n : ℕ). Four good 0 n 0) q ∙ sym (ap keyAnswerLine e)
 
-pub line-fault : (r : KeyAnswer) (f : Fault) (n : ℕ) → r ≡ answer.Fault f → n ≡ faultNumber (f .kind) → Four n (f .place .offset) 0 0 ≡ keyAnswerLine r
-line-fault r f n e q = ap (λ (n : ℕ). Four n (f .place .offset) 0 0) q ∙ sym (ap keyAnswerLine e)
+pub line-fault : (r : KeyAnswer) (f : Fault) (line : Line) → r ≡ answer.Fault f → line ≡ faultAnswer f → line ≡ keyAnswerLine r
+line-fault r f line e q = q ∙ sym (ap keyAnswerLine e)
 
 pub line-request : (r : KeyAnswer) → r ≡ answer.Request → Four wrongRequest 0 0 0 ≡ keyAnswerLine r
 line-request r e = sym (ap keyAnswerLine e)

@@ -1,6 +1,9 @@
 -- Laws of answer lines.
 pub mod ChecksLaws
+pub mod Examples
+pub mod HashesLaws
 pub mod KeyDecisionsLaws
 pub mod LinesLaws
 pub mod PartsLaws
 pub mod SheetsLaws
+pub mod TranslationsLaws

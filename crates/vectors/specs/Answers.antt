@@ -19,6 +19,10 @@ faultNumber kind.Version = 7
 abbrev pub wrongRequest : ℕ
 wrongRequest = 8
 
+-- Room: a lent output is short.
+abbrev pub noRoom : ℕ
+noRoom = 9
+
 -- Denied: the rules give the subject no access.
 abbrev pub denied : ℕ
 denied = 11

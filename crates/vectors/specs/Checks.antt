@@ -4,14 +4,15 @@ use Prim.Native.Nat.{ℕ}
 use Rattle.checker.specs.Promise.{Checks}
 use Rattle.checker.specs.declared.Checked.{Checked}
 use Rattle.checker.specs.declared.Checked.the-variants as checked
-use Rattle.vectors.specs.Answers.{good, faultNumber, wrongRequest, notADerivation}
+use Rattle.vectors.specs.Answers.{good, wrongRequest, notADerivation}
+use Rattle.vectors.specs.Lines.{faultAnswer}
 use Rattle.vectors.specs.declared.lines.Line.{Line}
 use Rattle.vectors.specs.declared.lines.Line.the-variants.{Four}
 
 -- The numbers of an answer: its number, offset, depth and length. Those that it does not carry are 0.
 abbrev pub checkedLine : Checked → Line
 checkedLine (checked.Accepted d) = Four good 0 (d .0) 0
-checkedLine (checked.BadTable e) = Four (faultNumber (e .kind)) (e .place .offset) 0 0
+checkedLine (checked.BadTable e) = faultAnswer e
 checkedLine checked.BadRequest = Four wrongRequest 0 0 0
 checkedLine checked.NotDerivation = Four notADerivation 0 0 0
 

@@ -4,14 +4,15 @@ use Prim.Native.Nat.{ℕ}
 use Rattle.keytable.specs.Deciding.{KeyDecides}
 use Rattle.keytable.specs.declared.KeyAnswer.{KeyAnswer}
 use Rattle.keytable.specs.declared.KeyAnswer.the-variants as answer
-use Rattle.vectors.specs.Answers.{good, faultNumber, wrongRequest, denied}
+use Rattle.vectors.specs.Answers.{good, wrongRequest, denied}
+use Rattle.vectors.specs.Lines.{faultAnswer}
 use Rattle.vectors.specs.declared.lines.Line.{Line}
 use Rattle.vectors.specs.declared.lines.Line.the-variants.{Four}
 
 -- The numbers of an answer: its number, offset, depth and length. Those that it does not carry are 0.
 abbrev pub keyAnswerLine : KeyAnswer → Line
 keyAnswerLine (answer.Granted d) = Four good 0 (d .0) 0
-keyAnswerLine (answer.Fault e) = Four (faultNumber (e .kind)) (e .place .offset) 0 0
+keyAnswerLine (answer.Fault e) = faultAnswer e
 keyAnswerLine answer.Request = Four wrongRequest 0 0 0
 keyAnswerLine answer.Denied = Four denied 0 0 0
 

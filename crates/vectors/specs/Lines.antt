@@ -12,11 +12,15 @@ use Rattle.table.specs.ReadKeyTable.{KeyLaid}
 use Rattle.table.specs.ReadTable as table
 use Rattle.vectors.specs.Answers.{good, faultNumber, wrongRequest, notADerivation}
 use Rattle.vectors.specs.declared.lines.Line.{Line}
-use Rattle.vectors.specs.declared.lines.Line.the-variants.{One, Two, Three, Five}
+use Rattle.vectors.specs.declared.lines.Line.the-variants.{One, Two, Three, Four, Five}
 
 -- A fault: its number and its offset.
 abbrev pub faultLine : Fault → Line
 faultLine e = Two (faultNumber (e .kind)) (e .place .offset)
+
+-- A fault as an answer of four numbers: its number and its offset, and 0 for the depth and the length.
+abbrev pub faultAnswer : Fault → Line
+faultAnswer e = Four (faultNumber (e .kind)) (e .place .offset) 0 0
 
 -- A table: its counts, or its fault.
 unfoldable pub tableLine : Parsed table.Laid → Line

@@ -1,7 +1,7 @@
 // The reviewer's list of answers: the numbers that reading gives.
 ghost use mathlib.Core.Path.{_≡_};
 ghost use Rattle.vectors.specs.Answers.{faultNumber};
-ghost use Rattle.vectors.specs.Lines.{faultLine};
+ghost use Rattle.vectors.specs.Lines.{faultLine, faultAnswer};
 use crate::lines::Line;
 use records::faults::Fault;
 use records::faults::Kind;
@@ -9,6 +9,8 @@ use records::faults::Kind;
 pub const GOOD: usize = 0;
 
 pub const WRONG_REQUEST: usize = 8;
+
+pub const NO_ROOM: usize = 9;
 
 pub const DENIED: usize = 11;
 
@@ -36,4 +38,13 @@ pub fn fault_line(fault: Fault) -> Line
     let kind = fault.kind;
     let place = fault.place;
     Line::Two(number_of(kind) as usize, place.offset)
+}
+
+// The four numbers of a fault: its number, its offset, and no depth or length.
+pub fn fault_answer(fault: Fault) -> Line
+    ensures { λ r. ⌜ r ≡ faultAnswer fault ⌝ }
+{
+    let kind = fault.kind;
+    let place = fault.place;
+    Line::Four(number_of(kind) as usize, place.offset, 0, 0)
 }

@@ -4,7 +4,7 @@ ghost use Rattle.vectors.specs.Checks.{checkedLine, CheckLine};
 use crate::answers::GOOD;
 use crate::answers::NOT_A_DERIVATION;
 use crate::answers::WRONG_REQUEST;
-use crate::answers::number_of;
+use crate::answers::fault_answer;
 use crate::input::Part;
 use crate::input::read_part;
 use crate::lines::Line;
@@ -18,11 +18,7 @@ fn checked_line(answer: Checked) -> Line
 {
     match answer {
         Checked::Accepted(depth) => Line::Four(GOOD, 0, depth.number() as usize, 0),
-        Checked::BadTable(fault) => {
-            let kind = fault.kind;
-            let place = fault.place;
-            Line::Four(number_of(kind) as usize, place.offset, 0, 0)
-        }
+        Checked::BadTable(fault) => fault_answer(fault),
         Checked::BadRequest => Line::Four(WRONG_REQUEST, 0, 0, 0),
         Checked::NotDerivation => Line::Four(NOT_A_DERIVATION, 0, 0, 0),
     }

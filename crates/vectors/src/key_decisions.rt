@@ -4,7 +4,7 @@ ghost use Rattle.vectors.specs.KeyDecisions.{keyAnswerLine, KeyDecisionL
 use crate::answers::DENIED;
 use crate::answers::GOOD;
 use crate::answers::WRONG_REQUEST;
-use crate::answers::number_of;
+use crate::answers::fault_answer;
 use crate::input::Part;
 use crate::input::read_part;
 use crate::lines::Line;
@@ -18,11 +18,7 @@ fn answer_line(answer: KeyAnswer) -> Line
 {
     match answer {
         KeyAnswer::Granted(depth) => Line::Four(GOOD, 0, depth.number() as usize, 0),
-        KeyAnswer::Fault(fault) => {
-            let kind = fault.kind;
-            let place = fault.place;
-            Line::Four(number_of(kind) as usize, place.offset, 0, 0)
-        }
+        KeyAnswer::Fault(fault) => fault_answer(fault),
         KeyAnswer::Request => Line::Four(WRONG_REQUEST, 0, 0, 0),
         KeyAnswer::Denied => Line::Four(DENIED, 0, 0, 0),
     }

@@ -1,4 +1,5 @@
 // Answer lines: decimal numbers with one space between them.
+use crate::hashes::write_hash;
 use libc::STDOUT_FILENO;
 
 // The numbers of a line.
@@ -8,6 +9,12 @@ pub enum Line {
     Three(usize, usize, usize),
     Four(usize, usize, usize, usize),
     Five(usize, usize, usize, usize, usize),
+}
+
+// The numbers of a line, and a hash behind them.
+pub struct HashedLine {
+    pub line: Line,
+    pub hash: u32,
 }
 
 // Writes the first number of a line.
@@ -55,6 +62,14 @@ fn write_numbers(line: Line) {
 // Writes the line.
 pub fn write_line(line: Line) {
     write_numbers(line);
+    io::write_all(STDOUT_FILENO, b"\n");
+}
+
+// Writes the line, with its hash.
+pub fn write_hashed_line(hashed: HashedLine) {
+    let line = hashed.line;
+    write_numbers(line);
+    write_hash(hashed.hash);
     io::write_all(STDOUT_FILENO, b"\n");
 }
 

@@ -5,6 +5,7 @@ use libc::STDIN_FILENO;
 mod answers;
 mod checks;
 mod derivations;
+mod hashes;
 mod input;
 mod key_decisions;
 mod key_requests;
@@ -13,6 +14,7 @@ mod lines;
 mod requests;
 mod sheets;
 mod tables;
+mod translations;
 
 // Answers a case of this kind, and says whether to go on.
 fn answer_case(kind: u8) -> bool {
@@ -24,6 +26,7 @@ fn answer_case(kind: u8) -> bool {
         5 => key_requests::answer(),
         6 => sheets::answer(),
         11 => checks::answer(),
+        12 => translations::answer(),
         13 => key_decisions::answer(),
         _ => stopped(b"no such kind"),
     }

@@ -10,17 +10,14 @@ enum-known-answer c = search needs
 number-requires : tie.Need-number-requires
 number-requires c κs = search needs
 
-cast-t8 : tie.Need-cast-t8
-cast-t8 c = search needs
+cast-t6 : tie.Need-cast-t6
+cast-t6 c = search needs
 
 enum-known-answer-2 : tie.Need-enum-known-answer-2
 enum-known-answer-2 c = search needs
 
-number-of-requires : tie.Need-number-of-requires
-number-of-requires c κs = search needs
-
-cast-t10 : tie.Need-cast-t10
-cast-t10 c = search needs
+fault-answer-requires : tie.Need-fault-answer-requires
+fault-answer-requires c κs = search needs
 
 enum-told : tie.Need-enum-told
 enum-told c = search needs
@@ -32,7 +29,7 @@ returns : tie.Need-returns
 returns c = line-granted _ _ _ (c .before .before .answer .given .1) (c .number .ensures)
 
 returns-2 : tie.Need-returns-2
-returns-2 c = line-fault _ _ _ (c .before .before .before .answer2 .given .1) (c .number-of .ensures)
+returns-2 c = line-fault _ _ _ (c .before .before .answer2 .given .1) (c .fault-answer .ensures)
 
 returns-3 : tie.Need-returns-3
 returns-3 c = line-request _ (c .enum-told .given .1)
@@ -46,10 +43,9 @@ answer-line-spec =
     (tie.spec
     enum-known-answer
     number-requires
-    cast-t8
+    cast-t6
     enum-known-answer-2
-    number-of-requires
-    cast-t10
+    fault-answer-requires
     enum-told
     enum-told-2
     returns
