@@ -1,5 +1,6 @@
 -- Laws of answer lines.
 pub mod ChecksLaws
+pub mod DecisionsLaws
 pub mod Examples
 pub mod HashesLaws
 pub mod KeyDecisionsLaws

@@ -23,6 +23,10 @@ wrongRequest = 8
 abbrev pub noRoom : ℕ
 noRoom = 9
 
+-- Unnamed: the subject has no meaning.
+abbrev pub unnamed : ℕ
+unnamed = 10
+
 -- Denied: the rules give the subject no access.
 abbrev pub denied : ℕ
 denied = 11
@@ -30,3 +34,7 @@ denied = 11
 -- Not a derivation: malformed, or does not hold.
 abbrev pub notADerivation : ℕ
 notADerivation = 12
+
+-- Overrun: the derivation is too long.
+abbrev pub overrun : ℕ
+overrun = 13

@@ -1,6 +1,7 @@
 -- What the answer lines say.
 pub mod Answers
 pub mod Checks
+pub mod Decisions
 pub mod Hashes
 pub mod KeyDecisions
 pub mod Lines

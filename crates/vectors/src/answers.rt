@@ -12,9 +12,13 @@ pub const WRONG_REQUEST: usize = 8;
 
 pub const NO_ROOM: usize = 9;
 
+pub const UNNAMED: usize = 10;
+
 pub const DENIED: usize = 11;
 
 pub const NOT_A_DERIVATION: usize = 12;
+
+pub const OVERRUN: usize = 13;
 
 // The number of a fault of this kind.
 pub fn number_of(kind: Kind) -> u32

@@ -7,7 +7,7 @@ use libc::STDOUT_FILENO;
 const START: u32 = 2166136261;
 
 // The byte, as a wider number.
-fn wide(byte: u8) -> u32
+pub fn wide(byte: u8) -> u32
     ensures { λ r. ⌜ r ≡ byte ⌝ }
 {
     byte as u32

@@ -29,7 +29,7 @@ fn write_next(number: usize) {
 }
 
 // Writes the numbers of a line.
-fn write_numbers(line: Line) {
+pub fn write_numbers(line: Line) {
     match line {
         Line::One(first) => {
             write_first(first);

@@ -4,6 +4,7 @@ use libc::STDIN_FILENO;
 
 mod answers;
 mod checks;
+mod decisions;
 mod derivations;
 mod hashes;
 mod input;
@@ -25,6 +26,7 @@ fn answer_case(kind: u8) -> bool {
         4 => key_tables::answer(),
         5 => key_requests::answer(),
         6 => sheets::answer(),
+        10 => decisions::answer(),
         11 => checks::answer(),
         12 => translations::answer(),
         13 => key_decisions::answer(),
