@@ -26,8 +26,10 @@ use Rattle.matching.specs.Matching.{told, HandsOn, Hands, Held}
 use Rattle.matching.specs.declared.Handed.{Handed}
 use Rattle.matching.specs.declared.Handed.the-variants as asHanded
 use Rattle.matching.proofs.MatchingLaws.{hands-on, hands-none}
-use Rattle.reach.specs.Graphs.{WroteTo, Edge}
-use Rattle.decision.specs.Gathering.{IsNode, space, FindsNode, DrawnSo, Room}
+use Rattle.reach.specs.Edges.{edgeOf, froms, tos, depthsOf, numbersOf}
+use Rattle.reach.specs.Graphs.{WroteTo, Edge, Drawn}
+use Rattle.reach.proofs.EdgesLaws.{froms-more, tos-more, depths-more, numbers-more}
+use Rattle.decision.specs.Gathering.{IsNode, space, FindsNode, DrawnSo}
 use Rattle.decision.specs.declared.gathering.NodeFound.{NodeFound}
 use Rattle.decision.specs.declared.gathering.NodeFound.the-variants as found
 use Rattle.decision.proofs.GatheringLaws.{one-node, finds-node, finds-nobody}
@@ -39,7 +41,11 @@ entry-first l x e h = List·getD-append l (x ∷ []) 0 e h
 entry-last : (l : List ℕ) (x e : ℕ) → e ≡ length l → entry (l ▷ x) e ≡ x
 entry-last l x e h = ap (entry (l ▷ x)) h ∙ getD-append-seam l x [] 0
 
-module _ (t : Table) (good : GoodNames (t .names)) (sheet : List ℕ) (q : Asked Space) (subject : Key) (j : ℕ) (from to depths numbers : List ℕ) (so : DrawnSo t sheet q subject j from to depths numbers) where
+-- The edges that the first `j` delegations are, told in rows.
+abbrev pub RowsSo : Table → List ℕ → Asked Space → Key → ℕ → List ℕ → List ℕ → List ℕ → List ℕ → Type 0
+RowsSo t sheet q subject j from to depths numbers = Drawn (settingBy (told t sheet) t q) (IsNode (t .names .spaces) subject) j from to depths numbers
+
+module _ (t : Table) (good : GoodNames (t .names)) (sheet : List ℕ) (q : Asked Space) (subject : Key) (j : ℕ) (from to depths numbers : List ℕ) (so : RowsSo t sheet q subject j from to depths numbers) where
   abbrev Y : Setting
   Y = settingBy (told t sheet) t q
 
@@ -47,7 +53,7 @@ module _ (t : Table) (good : GoodNames (t .names)) (sheet : List ℕ) (q : Asked
   N = IsNode (t .names .spaces) subject
 
   -- It is between no two nodes.
-  no-edge : ((d u v : ℕ) (k m : Key) → WroteTo Y j k m d → N u k → N v m → ⊥) → DrawnSo t sheet q subject (j + 1) from to depths numbers
+  no-edge : ((d u v : ℕ) (k m : Key) → WroteTo Y j k m d → N u k → N v m → ⊥) → RowsSo t sheet q subject (j + 1) from to depths numbers
   no-edge f = record {
     sameTo = so .sameTo;
     sameDepths = so .sameDepths;
@@ -62,7 +68,7 @@ module _ (t : Table) (good : GoodNames (t .names)) (sheet : List ℕ) (q : Asked
 
   -- It is one more edge.
   one-edge : (k m : Key) (d u v : ℕ) → WroteTo Y j k m d → N u k → N v m → ((c x y : ℕ) (a b : Key) → WroteTo Y j a b c → N x a → N y b → (x ≡ u) × (y ≡ v) × (c ≡ d))
-      → DrawnSo t sheet q subject (j + 1) (from ▷ u) (to ▷ v) (depths ▷ d) (numbers ▷ j)
+      → RowsSo t sheet q subject (j + 1) (from ▷ u) (to ▷ v) (depths ▷ d) (numbers ▷ j)
   one-edge k m d u v w a b one = record {
     sameTo = omega (arith, length-append to (v ∷ []), length-append from (u ∷ []), so .sameTo);
     sameDepths = omega (arith, length-append depths (d ∷ []), length-append from (u ∷ []), so .sameDepths);
@@ -106,7 +112,7 @@ module _ (t : Table) (good : GoodNames (t .names)) (sheet : List ℕ) (q : Asked
     as-handed : {k m : Key} {d : ℕ} (w : WroteTo Y j k m d) → HandsOn t sheet q j (w .name .space) m d
     as-handed {k} w = record { path = w .name .path; writer = k; writes = w .wrote; leads = w .means }
 
-    pub hands-no-edge : r ≡ asHanded.Nothing → DrawnSo t sheet q subject (j + 1) from to depths numbers
+    pub hands-no-edge : r ≡ asHanded.Nothing → RowsSo t sheet q subject (j + 1) from to depths numbers
     hands-no-edge e = no-edge (λ d u v k m w a b. hands-none found-so e (w .name .space) m d (as-handed w))
 
     module _ (S : Space) (m : Key) (d : Depth) (e : r ≡ asHanded.On S m d) where
@@ -125,10 +131,10 @@ module _ (t : Table) (good : GoodNames (t .names)) (sheet : List ℕ) (q : Asked
             f .1,
           )
 
-      pub to-nobody : (a : NodeFound) → FindsNode (t .names .spaces) subject m a → a ≡ found.Nobody → DrawnSo t sheet q subject (j + 1) from to depths numbers
+      pub to-nobody : (a : NodeFound) → FindsNode (t .names .spaces) subject m a → a ≡ found.Nobody → RowsSo t sheet q subject (j + 1) from to depths numbers
       to-nobody a f h = no-edge (λ c u v k l w x y. finds-nobody f h v (subst (N v) (says w .1) y))
 
-      pub one-more-edge : (a : NodeFound) → FindsNode (t .names .spaces) subject m a → (v : ℕ) → a ≡ found.Node v → DrawnSo t sheet q subject (j + 1) (from ▷ S .0) (to ▷ v) (depths ▷ d .0) (numbers ▷ j)
+      pub one-more-edge : (a : NodeFound) → FindsNode (t .names .spaces) subject m a → (v : ℕ) → a ≡ found.Node v → RowsSo t sheet q subject (j + 1) (from ▷ S .0) (to ▷ v) (depths ▷ d .0) (numbers ▷ j)
       one-more-edge a f v h =
           one-edge (hands .writer) m (d .0) (S .0) v wrote (space (hands .writes .isSelf)) (finds-node v f h)
           (λ c x y k l w g i.
@@ -138,18 +144,19 @@ module _ (t : Table) (good : GoodNames (t .names)) (sheet : List ℕ) (q : Asked
             s .2,
           ))
 
--- ---- in arrays
-pub drawn-in : (t : Table) (sheet : List ℕ) (q : Asked Space) (subject : Key) (j m : ℕ) (from to depths numbers : List ℕ) (u v d : ℕ) → m < length from → m < length to → m < length depths → m < length numbers
-    → DrawnSo t sheet q subject (j + 1) (take m from ▷ u) (take m to ▷ v) (take m depths ▷ d) (take m numbers ▷ j)
-    → DrawnSo t sheet q subject (j + 1) (take (m + 1) (set from m u)) (take (m + 1) (set to m v)) (take (m + 1) (set depths m d)) (take (m + 1) (set numbers m j))
-drawn-in t sheet q subject j m from to depths numbers u v d a b c e w = rw (add-one m, take-suc-set from m u a, take-suc-set to m v b, take-suc-set depths m d c, take-suc-set numbers m j e) w
+-- ---- in an array, with the depth's number as code has it
+pub drawn-in : (t : Table) (sheet : List ℕ) (q : Asked Space) (subject : Key) (j m : ℕ) (edges : List ℕ) (u v d c x : ℕ) → c ≡ d → x ≡ edgeOf u v c j → u < 640 → v < 640 → d < 16 → m < length edges
+    → RowsSo t sheet q subject (j + 1) (froms (take m edges) ▷ u) (tos (take m edges) ▷ v) (depthsOf (take m edges) ▷ d) (numbersOf (take m edges) ▷ j)
+    → DrawnSo t sheet q subject (j + 1) (take (m + 1) (set edges m x))
+drawn-in t sheet q subject j m edges u v d c x e is a b k h w =
+    subst (DrawnSo t sheet q subject (j + 1)) (sym row)
+    (rw (froms-more (take m edges) u v d j a b k, tos-more (take m edges) u v d j a b k, depths-more (take m edges) u v d j a b k, numbers-more (take m edges) u v d j a b k) w)
+  where
+    packed : x ≡ edgeOf u v d j
+    packed = is ∙ ap (λ (y : ℕ). edgeOf u v y j) e
 
--- The same with the depth's number as code has it.
-pub drawn-as : (t : Table) (sheet : List ℕ) (q : Asked Space) (subject : Key) (j m : ℕ) (from to depths numbers : List ℕ) (u v d c : ℕ) → c ≡ d → m < length from → m < length to → m < length depths → m < length numbers
-    → DrawnSo t sheet q subject (j + 1) (take m from ▷ u) (take m to ▷ v) (take m depths ▷ d) (take m numbers ▷ j)
-    → DrawnSo t sheet q subject (j + 1) (take (m + 1) (set from m u)) (take (m + 1) (set to m v)) (take (m + 1) (set depths m c)) (take (m + 1) (set numbers m j))
-drawn-as t sheet q subject j m from to depths numbers u v d c h a b x y w =
-    drawn-in t sheet q subject j m from to depths numbers u v c a b x y (subst (λ (n : ℕ). DrawnSo t sheet q subject (j + 1) (take m from ▷ u) (take m to ▷ v) (take m depths ▷ n) (take m numbers ▷ j)) (sym h) w)
+    row : take (m + 1) (set edges m x) ≡ take m edges ▷ edgeOf u v d j
+    row = rw (add-one m) (take-suc-set edges m x h ∙ ap (λ (y : ℕ). take m edges ▷ y) packed)
 
 -- ---- numbers that fit
 module _ (s keys names accesses delegations : List ℕ) (held : Held s keys names accesses delegations) (sheet : List ℕ) (q : Asked Space) (j : ℕ) (r : Handed) (g : Hands (HandsOn (tableAt s) sheet q j) r) (S : Space) (m : Key) (d : Depth) (e : r ≡ asHanded.On S m d) where
@@ -160,24 +167,19 @@ module _ (s keys names accesses delegations : List ℕ) (held : Held s keys name
   edge-depth-fits = held .good .delegations j _ (hands-on g e .writes .at) .depth
 
 -- ---- the loop
-pub record Drawing (t : Table) (sheet : List ℕ) (q : Asked Space) (subject : Key) (n : ℕ) (from₀ to₀ depths₀ numbers₀ from to depths numbers : List ℕ) (m j : ℕ) : Type 0 where
+pub record Drawing (t : Table) (sheet : List ℕ) (q : Asked Space) (subject : Key) (n : ℕ) (edges₀ edges : List ℕ) (m j : ℕ) : Type 0 where
   pub most : j ≤ n
   pub few : m ≤ j
-  pub sameFrom : length from ≡ length from₀
-  pub sameTo : length to ≡ length to₀
-  pub sameDepths : length depths ≡ length depths₀
-  pub sameNumbers : length numbers ≡ length numbers₀
-  pub drawn : DrawnSo t sheet q subject j (take m from) (take m to) (take m depths) (take m numbers)
+  pub same : length edges ≡ length edges₀
+  pub drawn : DrawnSo t sheet q subject j (take m edges)
 
-module _ (t : Table) (sheet : List ℕ) (q : Asked Space) (subject : Key) (n : ℕ) (from₀ to₀ depths₀ numbers₀ : List ℕ) where
-  pub drawing-start : Drawing t sheet q subject n from₀ to₀ depths₀ numbers₀ from₀ to₀ depths₀ numbers₀ 0 0
+module _ (t : Table) (sheet : List ℕ) (q : Asked Space) (subject : Key) (n : ℕ) (edges₀ : List ℕ) where
+  pub drawing-start : Drawing t sheet q subject n edges₀ edges₀ 0 0
+  unfolding froms tos depthsOf numbersOf
   drawing-start = record {
     most = omega arith;
     few = omega arith;
-    sameFrom = refl;
-    sameTo = refl;
-    sameDepths = refl;
-    sameNumbers = refl;
+    same = refl;
     drawn = record {
       sameTo = refl;
       sameDepths = refl;
@@ -187,14 +189,5 @@ module _ (t : Table) (sheet : List ℕ) (q : Asked Space) (subject : Key) (n : �
     };
   }
 
-  module _ (from to depths numbers : List ℕ) (m j : ℕ) (w : Drawing t sheet q subject n from₀ to₀ depths₀ numbers₀ from to depths numbers m j) where
-    pub drawing-room : Room from₀ to₀ depths₀ numbers₀ → Room from to depths numbers
-    drawing-room r = record {
-      from′ = omega (arith, r .from′, w .sameFrom);
-      to′ = omega (arith, r .to′, w .sameTo);
-      depths′ = omega (arith, r .depths′, w .sameDepths);
-      numbers′ = omega (arith, r .numbers′, w .sameNumbers);
-    }
-
-    pub drawing-end : n ≤ j → DrawnSo t sheet q subject n (take m from) (take m to) (take m depths) (take m numbers) × (m ≤ n)
-    drawing-end h = let e : j ≡ n = omega (arith, w .most) in (subst (λ (x : ℕ). DrawnSo t sheet q subject x (take m from) (take m to) (take m depths) (take m numbers)) e (w .drawn), omega (arith, e, w .few))
+  pub drawing-end : (edges : List ℕ) (m j : ℕ) → Drawing t sheet q subject n edges₀ edges m j → n ≤ j → DrawnSo t sheet q subject n (take m edges) × (m ≤ n)
+  drawing-end edges m j w h = let e : j ≡ n = omega (arith, w .most) in (subst (λ (x : ℕ). DrawnSo t sheet q subject x (take m edges)) e (w .drawn), omega (arith, e, w .few))

@@ -20,8 +20,10 @@ use Rattle.table.specs.ReadTable.{tableAt}
 use Rattle.table.specs.Finding.{keysOf}
 use Rattle.sheet.proofs.MeaningLaws.{index-spaces}
 use Rattle.matching.specs.Matching.{told, Held}
+use Rattle.reach.specs.Edges.{froms, tos, depthsOf, numbersOf}
 use Rattle.reach.specs.Reached.{Edges, Lent, Reached}
 use Rattle.reach.specs.Graphs.{Graph, Traced}
+use Rattle.reach.proofs.EdgesLaws.{froms-length}
 use Rattle.reach.proofs.GraphsLaws.{settled, traced-chain}
 use Rattle.decision.specs.Gathering.{IsNode, space, stranger, FindsNode, GivenSo, DrawnSo}
 use Rattle.decision.specs.Settling.{Zeros, Settles}
@@ -64,18 +66,18 @@ module _ (s keys names accesses delegations : List ℕ) (held : Held s keys name
     all = λ j d v k h. absurd (omega arith);
   }
 
-  module _ (from to depths numbers : List ℕ) (drawn : DrawnSo (tableAt s) sheet q subject (length delegations) from to depths numbers) where
-    pub graph-edges : (n : ℕ) → n ≡ suc (length keys) → length from ≤ mostDelegations → Edges from to depths n
+  module _ (edges : List ℕ) (drawn : DrawnSo (tableAt s) sheet q subject (length delegations) edges) where
+    pub graph-edges : (n : ℕ) → n ≡ suc (length keys) → length edges ≤ mostDelegations → Edges (froms edges) (tos edges) (depthsOf edges) n
     graph-edges n e h = record {
-      few = omega (arith, h);
+      few = omega (arith, h, froms-length edges);
       sameTo = drawn .sameTo;
       sameDepths = drawn .sameDepths;
       fromNode = λ i l. omega (arith, e, node-below (tableAt s .names .spaces) subject (drawn .sound i l .fromNode), index-spaces (tableAt s .names) keys names (held .index));
       toNode = λ i l. omega (arith, e, node-below (tableAt s .names .spaces) subject (drawn .sound i l .toNode), index-spaces (tableAt s .names) keys names (held .index));
     }
 
-    module _ (start roots best by : List ℕ) (given : GivenSo (tableAt s) sheet q subject (length accesses) start roots) (w : Reached from to depths start best by) where
-      graph : Graph Y N (length accesses) (length delegations) from to depths numbers start roots
+    module _ (start roots best by : List ℕ) (given : GivenSo (tableAt s) sheet q subject (length accesses) start roots) (w : Reached (froms edges) (tos edges) (depthsOf edges) start best by) where
+      graph : Graph Y N (length accesses) (length delegations) (froms edges) (tos edges) (depthsOf edges) (numbersOf edges) start roots
       graph = record {
         fewAccesses = λ i d n l. omega (arith, l .at .there, held .accessCount);
         fewDelegations = λ j d k n x. omega (arith, x .at .there, held .delegationCount);
@@ -96,17 +98,17 @@ module _ (s keys names accesses delegations : List ℕ) (held : Held s keys name
           is = finds-node v (node-here s keys names accesses delegations held f) e
 
           has : Has Y subject (verdictOf (entry best v))
-          has = settled Y fits N (length accesses) (length delegations) from to depths numbers start roots best by graph w v subject is
+          has = settled Y fits N (length accesses) (length delegations) (froms edges) (tos edges) (depthsOf edges) (numbersOf edges) start roots best by graph w v subject is
 
           pub settles-none : entry best v ≡ 0 → Settles (tableAt s) sheet q subject chain (record { code = 0; access = 0; first = 0 })
           settles-none z = record { most = omega arith; has = subst (λ (c : ℕ). Has Y subject (verdictOf c)) z has; shown = λ d x. absurd (omega (arith, x)) }
 
-          pub settles-some : (r : Settled) → r .code ≡ entry best v → Traced from numbers start best roots by v (r .access) (drop (r .first) chain) × (r .first ≤ top) → Settles (tableAt s) sheet q subject chain r
+          pub settles-some : (r : Settled) → r .code ≡ entry best v → Traced (froms edges) (numbersOf edges) start best roots by v (r .access) (drop (r .first) chain) × (r .first ≤ top) → Settles (tableAt s) sheet q subject chain r
           settles-some r c t = record {
             most = omega (arith, c, w .risen .lent .codes v);
             has = subst (λ (n : ℕ). Has Y subject (verdictOf n)) (sym c) has;
             shown = λ d x. (
-              let z = traced-chain Y fits N (length accesses) (length delegations) from to depths numbers start roots best by graph w (t .0) d subject is (sym c ∙ x) in
+              let z = traced-chain Y fits N (length accesses) (length delegations) (froms edges) (tos edges) (depthsOf edges) (numbersOf edges) start roots best by graph w (t .0) d subject is (sym c ∙ x) in
                   record { name = z .0; chain = z .1; means = z .2 },
               t .1,
             );

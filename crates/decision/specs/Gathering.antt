@@ -1,14 +1,14 @@
 -- The graph of a request's records: a node for each space and for the subject.
 use mathlib.Core.List.{List}
-use Prim.Native.Nat.{ℕ, _≤_}
+use Prim.Native.Nat.{ℕ}
 use lib.ListN.{length}
-use Rattle.rules.specs.Ranges.{mostDelegations}
 use Rattle.rules.specs.Tables.{Asked, Table}
 use Rattle.rules.specs.Names.{IsSelf}
 use Rattle.rules.specs.Access.{settingBy}
 use Rattle.rules.specs.declared.Key.{Key}
 use Rattle.rules.specs.declared.Space.{Space}
 use Rattle.matching.specs.Matching.{told}
+use Rattle.reach.specs.Edges.{froms, tos, depthsOf, numbersOf}
 use Rattle.reach.specs.Graphs.{Given, Drawn}
 use Rattle.decision.specs.declared.gathering.NodeFound.{NodeFound}
 use Rattle.decision.specs.declared.gathering.NodeFound.the-variants as found
@@ -27,12 +27,5 @@ pub data FindsNode (spaces : List Key) (subject k : Key) : NodeFound → Type 0 
 abbrev pub GivenSo : Table → List ℕ → Asked Space → Key → ℕ → List ℕ → List ℕ → Type 0
 GivenSo t sheet q subject i best roots = Given (settingBy (told t sheet) t q) (IsNode (t .names .spaces) subject) i best roots
 
-abbrev pub DrawnSo : Table → List ℕ → Asked Space → Key → ℕ → List ℕ → List ℕ → List ℕ → List ℕ → Type 0
-DrawnSo t sheet q subject j from to depths numbers = Drawn (settingBy (told t sheet) t q) (IsNode (t .names .spaces) subject) j from to depths numbers
-
--- Room for an edge for every delegation.
-pub record Room (from to depths numbers : List ℕ) : Type 0 where
-  pub from′ : mostDelegations ≤ length from
-  pub to′ : mostDelegations ≤ length to
-  pub depths′ : mostDelegations ≤ length depths
-  pub numbers′ : mostDelegations ≤ length numbers
+abbrev pub DrawnSo : Table → List ℕ → Asked Space → Key → ℕ → List ℕ → Type 0
+DrawnSo t sheet q subject j edges = Drawn (settingBy (told t sheet) t q) (IsNode (t .names .spaces) subject) j (froms edges) (tos edges) (depthsOf edges) (numbersOf edges)

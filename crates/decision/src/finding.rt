@@ -31,10 +31,7 @@ pub fn find_chain(
         × (length (now accesses) ≤ mostAccesses) × (length (now delegations) ≤ mostDelegations) × (length (now chain) ≡ top) ⌝ }
     ensures { λ r. ⌜ Settles (tableAt (now (table .entry))) (now (sheet .entry)) (askedOf owner wanted) subject (now (chain .exit)) r ⌝ }
 {
-    let mut from = [0; 512];
-    let mut to = [0; 512];
-    let mut depths = [0; 512];
-    let mut numbers = [0; 512];
+    let mut edges = [0; 512];
     let m = draw_all(
         table,
         keys,
@@ -45,10 +42,7 @@ pub fn find_chain(
         owner,
         wanted,
         subject,
-        &mut from,
-        &mut to,
-        &mut depths,
-        &mut numbers,
+        &mut edges,
     );
     let nodes = keys.len() + 1;
     let mut begun = [0; 65];
@@ -65,10 +59,7 @@ pub fn find_chain(
         owner,
         wanted,
         subject,
-        &from[..m],
-        &to[..m],
-        &depths[..m],
-        &numbers[..m],
+        &edges[..m],
         &mut begun[..nodes],
         &mut roots[..nodes],
         &mut best[..nodes],

@@ -6,11 +6,12 @@ ghost use Rattle.rules.specs.Ranges.{mostAccesses, mostDelegations};
 ghost use Rattle.table.specs.ReadTable.{tableAt};
 ghost use Rattle.table.specs.Finding.{keysOf};
 ghost use Rattle.matching.specs.Matching.{Held, askedOf};
-ghost use Rattle.decision.specs.Gathering.{FindsNode, GivenSo, DrawnSo, Room};
+ghost use Rattle.decision.specs.Gathering.{FindsNode, GivenSo, DrawnSo};
 use matching::Given;
 use matching::Handed;
 use matching::match_access;
 use matching::match_delegation;
+use reach::edges::edge;
 use records::fields::Use;
 use rules::Key;
 use rules::Space;
@@ -136,16 +137,13 @@ fn draw_one(
     wanted: Use,
     subject: Key,
     j: usize,
-    from: &mut [u16],
-    to: &mut [u16],
-    depths: &mut [u8],
-    numbers: &mut [u16],
+    edges: &mut [u32],
     m: usize,
 ) -> usize
     requires { ⌜ Held (now table) (now keys) (now names) (now accesses) (now delegations) × (length (now names) ≤ length (now sheet)) × (owner .0 < length (now keys)) × (j < length (now delegations))
-        × (length (now delegations) ≤ mostDelegations) × Room (now from) (now to) (now depths) (now numbers) × (m ≤ j)
-        × DrawnSo (tableAt (now table)) (now sheet) (askedOf owner wanted) subject j (take m (now from)) (take m (now to)) (take m (now depths)) (take m (now numbers)) ⌝ }
-    ensures drawn { λ r. ⌜ DrawnSo (tableAt (now (table .entry))) (now (sheet .entry)) (askedOf owner wanted) subject (j + 1) (take r (now (from .exit))) (take r (now (to .exit))) (take r (now (depths .exit))) (take r (now (numbers .exit))) ⌝ }
+        × (length (now delegations) ≤ mostDelegations) × (mostDelegations ≤ length (now edges)) × (m ≤ j)
+        × DrawnSo (tableAt (now table)) (now sheet) (askedOf owner wanted) subject j (take m (now edges)) ⌝ }
+    ensures drawn { λ r. ⌜ DrawnSo (tableAt (now (table .entry))) (now (sheet .entry)) (askedOf owner wanted) subject (j + 1) (take r (now (edges .exit))) ⌝ }
     ensures few { λ r. ⌜ r ≤ j + 1 ⌝ }
 {
     let handed = match_delegation(
@@ -166,11 +164,7 @@ fn draw_one(
     let NodeFound::Node(v) = node else {
         return m;
     };
-    let left = depth.number();
-    from[m] = writer.0 as u16;
-    to[m] = v as u16;
-    depths[m] = left as u8;
-    numbers[m] = j as u16;
+    edges[m] = edge(writer.0, v, depth.number(), j);
     m + 1
 }
 
@@ -185,14 +179,11 @@ pub fn draw_all(
     owner: Space,
     wanted: Use,
     subject: Key,
-    from: &mut [u16],
-    to: &mut [u16],
-    depths: &mut [u8],
-    numbers: &mut [u16],
+    edges: &mut [u32],
 ) -> usize
     requires { ⌜ Held (now table) (now keys) (now names) (now accesses) (now delegations) × (length (now names) ≤ length (now sheet)) × (owner .0 < length (now keys))
-        × (length (now delegations) ≤ mostDelegations) × Room (now from) (now to) (now depths) (now numbers) ⌝ }
-    ensures drawn { λ r. ⌜ DrawnSo (tableAt (now (table .entry))) (now (sheet .entry)) (askedOf owner wanted) subject (length (now (delegations .entry))) (take r (now (from .exit))) (take r (now (to .exit))) (take r (now (depths .exit))) (take r (now (numbers .exit))) ⌝ }
+        × (length (now delegations) ≤ mostDelegations) × (mostDelegations ≤ length (now edges)) ⌝ }
+    ensures drawn { λ r. ⌜ DrawnSo (tableAt (now (table .entry))) (now (sheet .entry)) (askedOf owner wanted) subject (length (now (delegations .entry))) (take r (now (edges .exit))) ⌝ }
     ensures few { λ r. ⌜ r ≤ length (now (delegations .entry)) ⌝ }
 {
     let mut m = 0;
@@ -209,10 +200,7 @@ pub fn draw_all(
             wanted,
             subject,
             j,
-            from,
-            to,
-            depths,
-            numbers,
+            edges,
             m,
         );
         j = j + 1;

@@ -47,10 +47,7 @@ pub fn settle(
     owner: Space,
     wanted: Use,
     subject: Key,
-    from: &[u16],
-    to: &[u16],
-    depths: &[u8],
-    numbers: &[u16],
+    edges: &[u32],
     begun: &mut [u8],
     roots: &mut [u16],
     best: &mut [u8],
@@ -58,7 +55,7 @@ pub fn settle(
     chain: &mut [u16],
 ) -> Settled
     requires { ⌜ Held (now table) (now keys) (now names) (now accesses) (now delegations) × (length (now names) ≤ length (now sheet)) × (length (now accesses) ≤ mostAccesses) × (length (now delegations) ≤ mostDelegations)
-        × DrawnSo (tableAt (now table)) (now sheet) (askedOf owner wanted) subject (length (now delegations)) (now from) (now to) (now depths) (now numbers) × (length (now from) ≤ mostDelegations)
+        × DrawnSo (tableAt (now table)) (now sheet) (askedOf owner wanted) subject (length (now delegations)) (now edges) × (length (now edges) ≤ mostDelegations)
         × (length (now begun) ≡ suc (length (now keys))) × (length (now roots) ≡ suc (length (now keys))) × (length (now best) ≡ suc (length (now keys))) × (length (now by) ≡ suc (length (now keys)))
         × Zeros (now begun) × (length (now chain) ≡ top) ⌝ }
     ensures { λ r. ⌜ Settles (tableAt (now (table .entry))) (now (sheet .entry)) (askedOf owner wanted) subject (now (chain .exit)) r ⌝ }
@@ -77,7 +74,7 @@ pub fn settle(
         roots,
     );
     copy(begun, best);
-    reach(from, to, depths, best, by);
+    reach(edges, best, by);
     let node = find_node(keys, subject, subject);
     let NodeFound::Node(v) = node else {
         return Settled {
@@ -94,7 +91,7 @@ pub fn settle(
             first: 0,
         };
     }
-    let trail = trace(from, to, depths, numbers, begun, best, roots, by, v, chain);
+    let trail = trace(edges, begun, best, roots, by, v, chain);
     Settled {
         code,
         access: trail.access,

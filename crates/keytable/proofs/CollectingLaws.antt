@@ -13,9 +13,10 @@ use Rattle.rules.specs.Sheets.{entry}
 use Rattle.rules.specs.Tables.{Asked}
 use Rattle.rules.specs.KeyTables.{KeyAccess, KeyDelegation, KeyTable, KeyRequest, keySetting}
 use Rattle.rules.specs.declared.Key.{Key}
+use Rattle.reach.specs.Edges.{froms, tos, depthsOf}
 use Rattle.keytable.specs.Loading.{Known}
 use Rattle.keytable.specs.Nodes.{Empty, IsNode, HasNode, Apart, Nodes, Grown}
-use Rattle.keytable.specs.Matching.{WriterHas, EdgeTurn, drawn, left, CodeTurn, given, enough, Writers, Edge, Drawn, Given, Matched}
+use Rattle.keytable.specs.Matching.{WriterHas, EdgeTurn, drawn, left, CodeTurn, given, enough, Writers, Edge, Drawn, Given, Matched, DrawnOf}
 use Rattle.keytable.specs.declared.KeySections.{KeySections}
 use Rattle.keytable.proofs.RowsLaws.{longer, entry-before, entry-last}
 use Rattle.keytable.proofs.NodesLaws.{first-node}
@@ -55,7 +56,8 @@ module _ (K : KeyTable) (q : Asked Key) where
 
   module _ (nodes : List ℕ) where
     -- ---- edges
-    pub drawn-none : Drawn K q nodes 0 [] [] []
+    pub drawn-none : DrawnOf K q nodes 0 []
+    unfolding froms tos depthsOf
     drawn-none = record { sameTo = refl; sameDepths = refl; sound = λ e h. absurd (omega arith); all = λ j d u v k k′ h w a b. absurd (omega arith) }
 
     pub drawn-all : (i n : ℕ) (from to depths : List ℕ) → Drawn K q nodes i from to depths → i ≡ n → Drawn K q nodes n from to depths

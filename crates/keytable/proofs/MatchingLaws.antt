@@ -5,14 +5,17 @@ use mathlib.Core.List.{List}
 use Prim.Native.Nat.{ℕ, suc, _+_, _<_, _≤_}
 use native.Mathlib.Omega.{arith}
 use lib.ListN.{length, take, set}
-use Rattle.rules.specs.Lists.{At}
+use Rattle.rules.specs.Lists.{At, _▷_}
+use Rattle.rules.specs.Depths.{top}
 use Rattle.rules.specs.Sheets.{entry}
 use Rattle.rules.specs.Tables.{Asked}
 use Rattle.rules.specs.KeyTables.{KeyAccess, KeyDelegation, KeyTable, keySetting}
 use Rattle.rules.specs.declared.Key.{Key}
 use Rattle.rules.proofs.ListsLaws.{at-one}
+use Rattle.reach.specs.Edges.{edgeOf}
+use Rattle.reach.proofs.EdgesLaws.{froms-more, tos-more, depths-more}
 use Rattle.keytable.specs.Nodes.{IsNode, HasNode, Apart, FindsNode, node, nobody}
-use Rattle.keytable.specs.Matching.{IsFor, Asks, asked, other, EdgeTurn, drawn, left, CodeTurn, given, enough}
+use Rattle.keytable.specs.Matching.{IsFor, Asks, asked, other, EdgeTurnOf, drawn, left, CodeTurn, given, enough}
 use Rattle.keytable.specs.declared.nodes.NodeFound.{NodeFound}
 use Rattle.keytable.specs.declared.nodes.NodeFound.the-variants as found
 use Rattle.keytable.proofs.RowsLaws.{written-last}
@@ -106,27 +109,41 @@ module _ (nodes : List ℕ) (k : Key) (r : NodeFound) (f : FindsNode nodes k r) 
       go _ (nobody n) e = n
 
 -- ---- one delegation, as code takes it
-module _ (q : Asked Key) (nodes : List ℕ) (x : KeyDelegation) (from to depths : List ℕ) (m : ℕ) where
-  abbrev pub EdgeTaken : List ℕ → List ℕ → List ℕ → ℕ → Type 0
-  EdgeTaken from′ to′ depths′ r = EdgeTurn q nodes x (take m from) (take m to) (take m depths) (take r from′) (take r to′) (take r depths′)
+module _ (q : Asked Key) (nodes : List ℕ) (x : KeyDelegation) (edges : List ℕ) (m : ℕ) where
+  abbrev pub EdgeTaken : List ℕ → ℕ → Type 0
+  EdgeTaken edges′ r = EdgeTurnOf q nodes x (take m edges) (take r edges′)
 
-  module _ (b : Bool) (is : Asks q (x .owner) (x .object) (x .right) b) where
-    pub edge-other : b ≡ false → EdgeTaken from to depths m
-    edge-other e = left (λ w u v. asks-no q (x .owner) (x .object) (x .right) is e w)
+  module _ (b : Bool) (is-asked : Asks q (x .owner) (x .object) (x .right) b) where
+    pub edge-other : b ≡ false → EdgeTaken edges m
+    edge-other e = left (λ w u v. asks-no q (x .owner) (x .object) (x .right) is-asked e w)
 
     module _ (r : NodeFound) (first : FindsNode nodes (x .writer) r) where
-      pub edge-from-nobody : r ≡ found.Nobody → EdgeTaken from to depths m
+      pub edge-from-nobody : r ≡ found.Nobody → EdgeTaken edges m
       edge-from-nobody e = left (λ w u v. node-missed nodes (x .writer) r first e u)
 
       module _ (t : NodeFound) (second : FindsNode nodes (x .delegatee) t) where
-        pub edge-to-nobody : t ≡ found.Nobody → EdgeTaken from to depths m
+        pub edge-to-nobody : t ≡ found.Nobody → EdgeTaken edges m
         edge-to-nobody e = left (λ w u v. node-missed nodes (x .delegatee) t second e v)
 
-        pub edge-drawn : b ≡ true → (u v d : ℕ) → r ≡ found.Node u → t ≡ found.Node v → d ≡ x .depth → m < length from → m < length to → m < length depths
-            → EdgeTaken (set from m u) (set to m v) (set depths m d) (m + 1)
-        edge-drawn e u v d i j g h₁ h₂ h₃ =
-            rw (written-last from m u h₁, written-last to m v h₂, written-last depths m d h₃, g)
-            (drawn (asks-yes q (x .owner) (x .object) (x .right) is e) (node-found nodes (x .writer) r first u i) (node-found nodes (x .delegatee) t second v j))
+        module _ (e : b ≡ true) (u v d n : ℕ) (i : r ≡ found.Node u) (j : t ≡ found.Node v) (g : d ≡ x .depth) (is : n ≡ edgeOf u v d 0) (few : length nodes ≤ 640) (small : x .depth ≤ top)
+            (h : m < length edges) where
+          from-node : IsNode nodes u (x .writer)
+          from-node = node-found nodes (x .writer) r first u i
+
+          to-node : IsNode nodes v (x .delegatee)
+          to-node = node-found nodes (x .delegatee) t second v j
+
+          row : take (m + 1) (set edges m n) ≡ take m edges ▷ edgeOf u v (x .depth) 0
+          row = written-last edges m n h ∙ ap (λ (y : ℕ). take m edges ▷ y) (is ∙ ap (λ (y : ℕ). edgeOf u v y 0) g)
+
+          pub edge-drawn : EdgeTaken (set edges m n) (m + 1)
+          edge-drawn =
+              let f : u < 640 = omega (arith, few, from-node .there) in
+              let k : v < 640 = omega (arith, few, to-node .there) in
+              let l : x .depth < 16 = omega (arith, small) in
+              subst (EdgeTurnOf q nodes x (take m edges)) (sym row)
+              (rw (froms-more (take m edges) u v (x .depth) 0 f k l, tos-more (take m edges) u v (x .depth) 0 f k l, depths-more (take m edges) u v (x .depth) 0 f k l)
+              (drawn (asks-yes q (x .owner) (x .object) (x .right) is-asked e) from-node to-node))
 
 -- ---- one access record, as code takes it
 module _ (q : Asked Key) (nodes : List ℕ) (x : KeyAccess) (best : List ℕ) (b : Bool) (is : Asks q (x .owner) (x .object) (x .right) b) where

@@ -16,15 +16,17 @@ use Rattle.rules.specs.declared.Key.{Key}
 use Rattle.rules.proofs.DepthsLaws.{fits, step-more, code-of-step, step-of-code}
 use Rattle.rules.proofs.AccessLaws.{access-to, chain→access}
 use Rattle.rules.proofs.GreatestLaws.{ClosedDepths, account-greatest}
+use Rattle.reach.specs.Edges.{froms, tos, depthsOf}
 use Rattle.reach.specs.Reached.{Edges, gives, Why, given, byEdge, Reached}
+use Rattle.reach.proofs.EdgesLaws.{froms-length}
 use Rattle.keytable.specs.Nodes.{IsNode, HasNode}
-use Rattle.keytable.specs.Matching.{Edge, Matched}
+use Rattle.keytable.specs.Matching.{Edge, Matched, MatchedOf}
 use Rattle.keytable.proofs.MatchingLaws.{one-node, one-key}
 
 -- The edges that stand for delegations lead from node to node.
-pub matched-edges : (K : KeyTable) (r : KeyRequest) (from to depths best : List ℕ) → Matched K r from to depths best → length from ≤ 65536 → Edges from to depths (length best)
-matched-edges K r from to depths best m h = record {
-  few = h;
+pub matched-edges : (K : KeyTable) (r : KeyRequest) (edges best : List ℕ) → MatchedOf K r edges best → length edges ≤ 65536 → Edges (froms edges) (tos edges) (depthsOf edges) (length best)
+matched-edges K r edges best m h = record {
+  few = omega (arith, h, froms-length edges);
   sameTo = m .drawn .sameTo;
   sameDepths = m .drawn .sameDepths;
   fromNode = λ e b. omega (arith, m .drawn .sound e b .fromNode .there, m .few);

@@ -11,6 +11,7 @@ use Rattle.rules.specs.Tables.{Asked}
 use Rattle.rules.specs.KeyTables.{KeyAccess, KeyDelegation, KeyTable, KeyRequest, keySetting}
 use Rattle.rules.specs.declared.Key.{Key}
 use Rattle.records.specs.declared.requests.KeyRequest.{KeyRequest as KeyRequestValue}
+use Rattle.reach.specs.Edges.{froms, tos, depthsOf}
 use Rattle.keytable.specs.Nodes.{IsNode, HasNode, Apart}
 
 -- The key request that code holds.
@@ -89,3 +90,13 @@ pub record Matched (K : KeyTable) (r : KeyRequest) (from to depths best : List �
   pub writers : Writers K (r .asked) nodes (length (K .delegations))
   pub drawn : Drawn K (r .asked) nodes (length (K .delegations)) from to depths
   pub given : Given K (r .asked) nodes (length (K .accesses)) best
+
+-- ---- the same of edges that are numbers
+abbrev pub EdgeTurnOf : Asked Key → List ℕ → KeyDelegation → List ℕ → List ℕ → Type 0
+EdgeTurnOf q nodes x edges edges′ = EdgeTurn q nodes x (froms edges) (tos edges) (depthsOf edges) (froms edges′) (tos edges′) (depthsOf edges′)
+
+abbrev pub DrawnOf : KeyTable → Asked Key → List ℕ → ℕ → List ℕ → Type 0
+DrawnOf K q nodes i edges = Drawn K q nodes i (froms edges) (tos edges) (depthsOf edges)
+
+abbrev pub MatchedOf : KeyTable → KeyRequest → List ℕ → List ℕ → Type 0
+MatchedOf K r edges best = Matched K r (froms edges) (tos edges) (depthsOf edges) best

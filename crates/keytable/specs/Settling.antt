@@ -6,7 +6,7 @@ use Rattle.rules.specs.Sheets.{entry}
 use Rattle.rules.specs.KeyTables.{KeyTable, KeyRequest}
 use Rattle.rules.specs.Verdicts.{DecidesByKeys}
 use Rattle.rules.specs.Greatest.{verdictOf}
-use Rattle.keytable.specs.Matching.{Matched}
+use Rattle.keytable.specs.Matching.{MatchedOf}
 use Rattle.keytable.specs.declared.KeyAnswer.{KeyAnswer}
 use Rattle.keytable.specs.declared.KeyAnswer.the-variants as answer
 
@@ -15,9 +15,9 @@ abbrev pub Codes : List ℕ → Type 0
 Codes best = (v : ℕ) → entry best v ≤ suc top
 
 -- The code settles every request whose matching records these are.
-pub record Settles (from to depths start : List ℕ) (code : ℕ) : Type 0 where
+pub record Settles (edges start : List ℕ) (code : ℕ) : Type 0 where
   pub most : code ≤ suc top
-  pub verdict : (K : KeyTable) (r : KeyRequest) → Matched K r from to depths start → DecidesByKeys K r (verdictOf code)
+  pub verdict : (K : KeyTable) (r : KeyRequest) → MatchedOf K r edges start → DecidesByKeys K r (verdictOf code)
 
 -- The answer that the code stands for.
 abbrev pub answerOf : ℕ → KeyAnswer

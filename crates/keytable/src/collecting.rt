@@ -5,7 +5,7 @@ ghost use Rattle.rules.specs.Ranges.{mostDelegations, GoodKeyTable};
 ghost use Rattle.records.specs.KeyRecords.{keyAccessRecord, keyDelegationRecord};
 ghost use Rattle.keytable.specs.Loading.{keyTableAt, Stand, Known};
 ghost use Rattle.keytable.specs.Nodes.{Empty, Nodes, Grown};
-ghost use Rattle.keytable.specs.Matching.{keyRequestOf, Writers, Drawn, Given, Matched};
+ghost use Rattle.keytable.specs.Matching.{keyRequestOf, Writers, Given, DrawnOf, MatchedOf};
 use crate::KeySections;
 use crate::matching::take_access;
 use crate::matching::take_delegation;
@@ -57,12 +57,10 @@ fn collect_edges(
     keys: &[u32],
     heads: &[u16],
     nexts: &[u16],
-    from: &mut [u16],
-    to: &mut [u16],
-    depths: &mut [u8],
+    edges: &mut [u32],
 ) -> usize
-    requires { ⌜ Stand keyDelegationRecord (now table) section (keyTableAt (now table) .delegations) × GoodKeyTable (keyTableAt (now table)) × Nodes (now keys) (now heads) (now nexts) × (length (now keys) ≤ 65536) × (section .count ≤ length (now from)) × (section .count ≤ length (now to)) × (section .count ≤ length (now depths)) ⌝ }
-    ensures drawn { λ r. ⌜ Drawn (keyTableAt (now (table .entry))) (keyRequestOf request .asked) (now (keys .entry)) (length (keyTableAt (now (table .entry)) .delegations)) (take r (now (from .exit))) (take r (now (to .exit))) (take r (now (depths .exit))) ⌝ }
+    requires { ⌜ Stand keyDelegationRecord (now table) section (keyTableAt (now table) .delegations) × GoodKeyTable (keyTableAt (now table)) × Nodes (now keys) (now heads) (now nexts) × (length (now keys) ≤ 640) × (section .count ≤ length (now edges)) ⌝ }
+    ensures drawn { λ r. ⌜ DrawnOf (keyTableAt (now (table .entry))) (keyRequestOf request .asked) (now (keys .entry)) (length (keyTableAt (now (table .entry)) .delegations)) (take r (now (edges .exit))) ⌝ }
     ensures few { λ r. ⌜ r ≤ section .count ⌝ }
 {
     let count = section.count;
@@ -74,7 +72,7 @@ fn collect_edges(
         let KeyDelegationRead::KeyDelegation(delegation, taken) = read else {
             return m;
         };
-        m = take_delegation(request, delegation, keys, heads, nexts, from, to, depths, m);
+        m = take_delegation(request, delegation, keys, heads, nexts, edges, m);
         at = at + taken;
         i = i + 1;
     }
@@ -113,13 +111,11 @@ pub fn collect(
     table: &[u8],
     sections: KeySections,
     request: KeyRequest,
-    from: &mut [u16],
-    to: &mut [u16],
-    depths: &mut [u8],
+    edges: &mut [u32],
     best: &mut [u8],
 ) -> usize
-    requires { ⌜ Known (now table) sections × Empty (now best) × (mostDelegations < length (now best)) × (mostDelegations ≤ length (now from)) × (mostDelegations ≤ length (now to)) × (mostDelegations ≤ length (now depths)) ⌝ }
-    ensures matched { λ r. ⌜ Matched (keyTableAt (now (table .entry))) (keyRequestOf request) (take r (now (from .exit))) (take r (now (to .exit))) (take r (now (depths .exit))) (now (best .exit)) ⌝ }
+    requires { ⌜ Known (now table) sections × Empty (now best) × (mostDelegations < length (now best)) × (mostDelegations ≤ length (now edges)) ⌝ }
+    ensures matched { λ r. ⌜ MatchedOf (keyTableAt (now (table .entry))) (keyRequestOf request) (take r (now (edges .exit))) (now (best .exit)) ⌝ }
     ensures few { λ r. ⌜ r ≤ mostDelegations ⌝ }
 {
     let mut keys = [0; 513];
@@ -146,8 +142,6 @@ pub fn collect(
         &keys[..n],
         &heads,
         &nexts,
-        from,
-        to,
-        depths,
+        edges,
     )
 }

@@ -6,6 +6,7 @@ ghost use Rattle.rules.specs.Depths.{top};
 ghost use Rattle.rules.specs.Ranges.{mostDelegations};
 ghost use Rattle.rules.specs.Verdicts.{DecidesByKeys};
 ghost use Rattle.rules.specs.Greatest.{verdictOf};
+ghost use Rattle.reach.specs.Edges.{froms, tos, depthsOf};
 ghost use Rattle.reach.specs.Reached.{Edges};
 ghost use Rattle.keytable.specs.Loading.{keyTableAt, Known};
 ghost use Rattle.keytable.specs.Matching.{keyRequestOf};
@@ -19,12 +20,12 @@ use rules::Depth;
 use rules::Made;
 
 // The greatest code of node 0.
-fn first_code(from: &[u16], to: &[u16], depths: &[u8], best: &mut [u8]) -> u8
-    requires { ⌜ Edges (now from) (now to) (now depths) (length (now best)) × Codes (now best) × (length (now best) ≡ suc mostDelegations) ⌝ }
-    ensures { λ r. ⌜ Settles (now (from .entry)) (now (to .entry)) (now (depths .entry)) (now (best .entry)) r ⌝ }
+fn first_code(edges: &[u32], best: &mut [u8]) -> u8
+    requires { ⌜ Edges (froms (now edges)) (tos (now edges)) (depthsOf (now edges)) (length (now best)) × Codes (now best) × (length (now best) ≡ suc mostDelegations) ⌝ }
+    ensures { λ r. ⌜ Settles (now (edges .entry)) (now (best .entry)) r ⌝ }
 {
     let mut by = [0; 513];
-    reach(from, to, depths, best, &mut by);
+    reach(edges, best, &mut by);
     best[0]
 }
 
@@ -34,20 +35,10 @@ pub fn greatest_code(table: &[u8], sections: KeySections, request: KeyRequest) -
     ensures decides { λ r. ⌜ DecidesByKeys (keyTableAt (now (table .entry))) (keyRequestOf request) (verdictOf r) ⌝ }
     ensures most { λ r. ⌜ r ≤ suc top ⌝ }
 {
-    let mut from = [0; 512];
-    let mut to = [0; 512];
-    let mut depths = [0; 512];
+    let mut edges = [0; 512];
     let mut best = [0; 513];
-    let m = collect(
-        table,
-        sections,
-        request,
-        &mut from,
-        &mut to,
-        &mut depths,
-        &mut best,
-    );
-    first_code(&from[..m], &to[..m], &depths[..m], &mut best)
+    let m = collect(table, sections, request, &mut edges, &mut best);
+    first_code(&edges[..m], &mut best)
 }
 
 // The answer that a code stands for.

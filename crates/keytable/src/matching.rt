@@ -4,10 +4,11 @@ ghost use lib.ListN.{length, take};
 ghost use Rattle.rules.specs.Depths.{top};
 ghost use Rattle.records.specs.KeyRecords.{keyAccessOf, keyDelegationOf};
 ghost use Rattle.keytable.specs.Nodes.{Nodes, Grown};
-ghost use Rattle.keytable.specs.Matching.{keyRequestOf, Asks, WriterHas, EdgeTurn, CodeTurn};
+ghost use Rattle.keytable.specs.Matching.{keyRequestOf, Asks, WriterHas, EdgeTurnOf, CodeTurn};
 use crate::nodes::NodeFound;
 use crate::nodes::add_node;
 use crate::nodes::find_node;
+use reach::edges::edge;
 use records::fields::Use;
 use records::keys::KeyAccess;
 use records::keys::KeyDelegation;
@@ -62,13 +63,11 @@ pub fn take_delegation(
     keys: &[u32],
     heads: &[u16],
     nexts: &[u16],
-    from: &mut [u16],
-    to: &mut [u16],
-    depths: &mut [u8],
+    edges: &mut [u32],
     m: usize,
 ) -> usize
-    requires { ⌜ Nodes (now keys) (now heads) (now nexts) × (length (now keys) ≤ 65536) × (delegation .depth .0 ≤ top) × (m < length (now from)) × (m < length (now to)) × (m < length (now depths)) ⌝ }
-    ensures turn { λ r. ⌜ EdgeTurn (keyRequestOf request .asked) (now (keys .entry)) (keyDelegationOf delegation) (take m (now (from .entry))) (take m (now (to .entry))) (take m (now (depths .entry))) (take r (now (from .exit))) (take r (now (to .exit))) (take r (now (depths .exit))) ⌝ }
+    requires { ⌜ Nodes (now keys) (now heads) (now nexts) × (length (now keys) ≤ 640) × (delegation .depth .0 ≤ top) × (m < length (now edges)) ⌝ }
+    ensures turn { λ r. ⌜ EdgeTurnOf (keyRequestOf request .asked) (now (keys .entry)) (keyDelegationOf delegation) (take m (now (edges .entry))) (take r (now (edges .exit))) ⌝ }
     ensures few { λ r. ⌜ r ≤ m + 1 ⌝ }
 {
     let writer = delegation.writer;
@@ -87,9 +86,7 @@ pub fn take_delegation(
     let NodeFound::Node(v) = second else {
         return m;
     };
-    from[m] = u as u16;
-    to[m] = v as u16;
-    depths[m] = depth.number() as u8;
+    edges[m] = edge(u, v, depth.number(), 0);
     m + 1
 }
 

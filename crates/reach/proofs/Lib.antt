@@ -1,4 +1,5 @@
 -- Laws of rounds over edges.
+pub mod EdgesLaws
 pub mod StepLaws
 pub mod RoundsLaws
 pub mod GraphsLaws

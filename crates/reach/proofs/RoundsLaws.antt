@@ -1,5 +1,5 @@
 -- Each edge followed raises a node's code or changes nothing, so the rounds end, and at the end no edge gives more.
-use mathlib.Core.Path.{_≡_, refl, _∙_, ap}
+use mathlib.Core.Path.{_≡_, refl, sym, _∙_, ap, ap₂}
 use mathlib.Core.Bool.{Bool, true, false}
 use mathlib.Core.List.{List, [], _∷_}
 use Prim.Native.Nat.{ℕ, zero, suc, _+_, _<_, _≤_}
@@ -9,11 +9,13 @@ use native.Mathlib.Decide.{ℕ-discrete}
 use lib.ListN.{length, set, length-set}
 use lib.Seq.{getD-set-same, getD-set-other}
 use Rattle.rules.specs.Choice.{pick}
-use Rattle.rules.specs.Depths.{top}
+use Rattle.rules.specs.Depths.{top, stepCode}
 use Rattle.rules.specs.Sheets.{entry}
 use Rattle.rules.proofs.DepthsLaws.{code-more}
+use Rattle.reach.specs.Edges.{fromOf, toOf, depthOf, froms, tos, depthsOf}
 use Rattle.reach.specs.Reached.{Edges, Lent, gives, Why, given, byEdge, Closed, Risen, Reached}
 use Rattle.reach.specs.Rounds.{spare, Quiet, Turn, quiet, raised, Progress, rose, still, Round}
+use Rattle.reach.proofs.EdgesLaws.{froms-length, froms-entry, tos-entry, depths-entry}
 use Rattle.reach.proofs.StepLaws.{step-below, step-less}
 
 -- ---- a code that rises leaves less to rise
@@ -90,12 +92,29 @@ module _ (from to depths : List ℕ) (best by : List ℕ) (edges : Edges from to
   raised-spare = spare-set best (entry to e) code (edges .toNode e h) up code-small
 
 -- ---- one edge, as code follows it
-module _ (from to depths best by : List ℕ) (e : ℕ) (rose : Bool) (code : ℕ) (is : code ≡ gives from to depths best e) where
-  pub turn-quiet : code ≤ entry best (entry to e) → Turn from to depths e best by rose best by rose
-  turn-quiet h = quiet (rw is at h)
+module _ (edges : List ℕ) (nodes e : ℕ) (there : e < length edges) (among : Edges (froms edges) (tos edges) (depthsOf edges) nodes) where
+  pub near-there : (near : ℕ) → near ≡ fromOf (entry edges e) → near < nodes
+  near-there near is = omega (arith, is, froms-entry edges e, among .fromNode e (omega (arith, froms-length edges)))
 
-  pub turn-raised : entry best (entry to e) < code → Turn from to depths e best by rose (set best (entry to e) code) (set by (entry to e) e) true
-  turn-raised h = rw is (raised (rw is at h))
+  pub far-there : (far : ℕ) → far ≡ toOf (entry edges e) → far < nodes
+  far-there far is = omega (arith, is, tos-entry edges e, among .toNode e (omega (arith, froms-length edges)))
+
+  pub number-fits : e < 65536
+  number-fits = omega (arith, froms-length edges, among .few)
+
+module _ (edges best by : List ℕ) (e : ℕ) (rose : Bool) (near far depth code : ℕ) (from : near ≡ fromOf (entry edges e)) (to : far ≡ toOf (entry edges e)) (deep : depth ≡ depthOf (entry edges e))
+    (is : code ≡ stepCode (entry best near) depth) where
+  code-gives : code ≡ gives (froms edges) (tos edges) (depthsOf edges) best e
+  code-gives = is ∙ ap₂ (λ (n d : ℕ). stepCode (entry best n) d) (from ∙ sym (froms-entry edges e)) (deep ∙ sym (depths-entry edges e))
+
+  far-node : far ≡ entry (tos edges) e
+  far-node = to ∙ sym (tos-entry edges e)
+
+  pub turn-quiet : code ≤ entry best far → Turn (froms edges) (tos edges) (depthsOf edges) e best by rose best by rose
+  turn-quiet h = quiet (rw (code-gives, far-node) at h)
+
+  pub turn-raised : entry best far < code → Turn (froms edges) (tos edges) (depthsOf edges) e best by rose (set best far code) (set by far e) true
+  turn-raised h = rw (code-gives, far-node) (raised (rw (code-gives, far-node) at h))
 
 -- ---- a round
 module _ (from to depths : List ℕ) (before byBefore : List ℕ) where

@@ -10,9 +10,11 @@ use Rattle.rules.specs.Lists.{_▷_}
 use Rattle.rules.specs.Depths.{top}
 use Rattle.rules.specs.Sheets.{entry}
 use Rattle.rules.proofs.DepthsLaws.{step-of-code}
+use Rattle.reach.specs.Edges.{fromOf, numberOf, froms, tos, depthsOf, numbersOf}
 use Rattle.reach.specs.Reached.{Edges, gives, Why, given, byEdge, Reached}
 use Rattle.reach.specs.Graphs.{Traced, onward}
 use Rattle.reach.specs.Graphs.{given as traced-given}
+use Rattle.reach.proofs.EdgesLaws.{froms-length, froms-entry, numbers-length, numbers-entry}
 
 -- An entry that is not 0 is there.
 pub entry-there : (l : List ℕ) (v : ℕ) → 0 < entry l v → v < length l
@@ -80,3 +82,18 @@ module _ (from to depths numbers start best roots by : List ℕ) (node : ℕ) wh
             where
               later : drop (suc (first - 1)) (set chain (first - 1) (entry numbers (entry by v))) ≡ drop (suc (first - 1)) chain
               later = drop-set-lt (suc (first - 1)) chain (first - 1) (entry numbers (entry by v)) (le-refl _)
+
+-- ---- over edges that are numbers
+module _ (edges start best roots by : List ℕ) (node : ℕ) (among : Edges (froms edges) (tos edges) (depthsOf edges) (length best)) (w : Reached (froms edges) (tos edges) (depthsOf edges) start best by)
+    (chain : List ℕ) (v first : ℕ) (x : Tracing (froms edges) (tos edges) (depthsOf edges) (numbersOf edges) start best roots by node chain v first) (q : entry best v ≡ entry start v → ⊥) where
+  pub edge-in : entry by v < length edges
+  edge-in = omega (arith, froms-length edges, edge-there (froms edges) (tos edges) (depthsOf edges) (numbersOf edges) start best roots by node among w chain v first x q)
+
+  pub number-in : entry by v < 65536
+  number-in = omega (arith, edge-in, froms-length edges, among .few)
+
+  pub tracing-back : (number near : ℕ) → number ≡ numberOf (entry edges (entry by v)) → near ≡ fromOf (entry edges (entry by v))
+      → Tracing (froms edges) (tos edges) (depthsOf edges) (numbersOf edges) start best roots by node (set chain (first - 1) number) near (first - 1)
+  tracing-back number near is from =
+      rw (is ∙ sym (numbers-entry edges (entry by v)), from ∙ sym (froms-entry edges (entry by v)))
+      (tracing-on (froms edges) (tos edges) (depthsOf edges) (numbersOf edges) start best roots by node among w chain v first x q (numbers-length edges ∙ sym (froms-length edges)))

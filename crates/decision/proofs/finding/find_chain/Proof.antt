@@ -2,13 +2,10 @@
 use mathlib.Core.Path.{sym}
 use Prim.Native.Nat.{_+_}
 use native.Mathlib.Omega.{arith}
-use lib.ListN.{length, replicate}
+use lib.ListN.{length}
 use lib.Seq.{length-take-le}
 use Rattle.matching.proofs.MatchingLaws.{few-spaces}
 use Rattle.decision.proofs.SettlingLaws.{row-part, row-size, row-zeros}
-use borrow.Author.Needs.{needs}
-use borrow.Author.Needs.{needs}
-use borrow.Author.Needs.{needs}
 use borrow.Author.Needs.{needs}
 use Rattle.decision.proofs.finding.find_chain.Statement.{statement}
 use Rattle.decision.proofs.finding.find_chain.Tie as tie
@@ -16,71 +13,44 @@ use Rattle.decision.proofs.finding.find_chain.Tie as tie
 slice-aggregate-draw-all : tie.Need-slice-aggregate-draw-all
 slice-aggregate-draw-all c = search needs
 
-slice-aggregate-draw-all-2 : tie.Need-slice-aggregate-draw-all-2
-slice-aggregate-draw-all-2 c = search needs
-
-slice-aggregate-draw-all-3 : tie.Need-slice-aggregate-draw-all-3
-slice-aggregate-draw-all-3 c = search needs
-
-slice-aggregate-draw-all-4 : tie.Need-slice-aggregate-draw-all-4
-slice-aggregate-draw-all-4 c = search needs
-
 draw-all-requires : tie.Need-draw-all-requires
-draw-all-requires c κs = (c .before .before .before .before .before .before .before .before .before .before .before .pre .0, c .before .before .before .before .before .before .before .before .before .before .before .pre .1, c .before .before .before .before .before .before .before .before .before .before .before .pre .2, c .before .before .before .before .before .before .before .before .before .before .before .pre .4, record { from′ = search needs; to′ = search needs; depths′ = search needs; numbers′ = search needs })
+draw-all-requires c κs = search needs
 
 add-nodes : tie.Need-add-nodes
 add-nodes c = search needs
 
-array-share-prefix-from : tie.Need-array-share-prefix-from
-array-share-prefix-from c = search needs
+array-share-prefix-edges : tie.Need-array-share-prefix-edges
+array-share-prefix-edges c = search needs
 
 slice-aggregate-settle : tie.Need-slice-aggregate-settle
-slice-aggregate-settle c = sym (length-take-le (c .before .before .before .before .before .draw-all .result) (c .before .before .before .before .before .draw-all .last .1 .1 .1 .1 .1 .1 .1 .1 .1 .0) (omega (arith, c .before .before .before .before .before .draw-all .ensures .1, c .before .before .before .before .from2 .given, c .before .before .before .before .before .before .before .before .before .before .before .before .before .before .before .before .before .pre .4)))
-
-array-share-prefix-to : tie.Need-array-share-prefix-to
-array-share-prefix-to c = search needs
-
-slice-aggregate-settle-2 : tie.Need-slice-aggregate-settle-2
-slice-aggregate-settle-2 c = sym (length-take-le (c .before .before .before .before .before .before .draw-all .result) (c .before .before .before .before .before .before .draw-all .last .1 .1 .1 .1 .1 .1 .1 .1 .1 .1 .0) (omega (arith, c .before .before .before .before .before .before .draw-all .ensures .1, c .before .before .before .before .to2 .given, c .before .before .before .before .before .before .before .before .before .before .before .before .before .before .before .before .before .before .pre .4)))
-
-array-share-prefix-depths : tie.Need-array-share-prefix-depths
-array-share-prefix-depths c = search needs
-
-slice-aggregate-settle-3 : tie.Need-slice-aggregate-settle-3
-slice-aggregate-settle-3 c = sym (length-take-le (c .before .before .before .before .before .before .before .draw-all .result) (c .before .before .before .before .before .before .before .draw-all .last .1 .1 .1 .1 .1 .1 .1 .1 .1 .1 .1 .0) (omega (arith, c .before .before .before .before .before .before .before .draw-all .ensures .1, c .before .before .before .before .depths2 .given, c .before .before .before .before .before .before .before .before .before .before .before .before .before .before .before .before .before .before .before .pre .4)))
-
-array-share-prefix-numbers : tie.Need-array-share-prefix-numbers
-array-share-prefix-numbers c = search needs
-
-slice-aggregate-settle-4 : tie.Need-slice-aggregate-settle-4
-slice-aggregate-settle-4 c = sym (length-take-le (c .before .before .before .before .before .before .before .before .draw-all .result) (c .before .before .before .before .before .before .before .before .draw-all .last .1 .1 .1 .1 .1 .1 .1 .1 .1 .1 .1 .1 .0) (omega (arith, c .before .before .before .before .before .before .before .before .draw-all .ensures .1, c .before .before .before .before .numbers2 .given, c .before .before .before .before .before .before .before .before .before .before .before .before .before .before .before .before .before .before .before .before .pre .4)))
+slice-aggregate-settle c = sym (length-take-le (c .before .before .draw-all .result) (c .before .before .draw-all .last .1 .1 .1 .1 .1 .1 .1 .1 .1 .0) (omega (arith, c .before .before .draw-all .ensures .1, c .before .edges2 .given, c .before .before .before .before .before .before .before .before .before .before .before .pre .4)))
 
 array-borrow-prefix-begun : tie.Need-array-borrow-prefix-begun
-array-borrow-prefix-begun c = omega (arith, few-spaces _ _ _ _ _ (c .before .before .before .before .before .before .before .before .before .before .before .before .before .before .before .before .before .before .before .before .pre .0))
+array-borrow-prefix-begun c = omega (arith, (few-spaces _ _ _ _ _ (c .before .before .before .before .before .before .before .before .before .before .before .pre .0)))
 
-slice-aggregate-settle-5 : tie.Need-slice-aggregate-settle-5
-slice-aggregate-settle-5 c = row-part (length (c .before .before .before .before .before .before .before .before .before .before .before .before .before .before .before .before .before .before .before .before .before .args .keys .now)) (few-spaces _ _ _ _ _ (c .before .before .before .before .before .before .before .before .before .before .before .before .before .before .before .before .before .before .before .before .before .pre .0))
+slice-aggregate-settle-2 : tie.Need-slice-aggregate-settle-2
+slice-aggregate-settle-2 c = row-part (length (c .before .before .before .before .before .before .before .before .before .before .before .before .args .keys .now)) (few-spaces _ _ _ _ _ (c .before .before .before .before .before .before .before .before .before .before .before .before .pre .0))
 
 array-borrow-prefix-roots : tie.Need-array-borrow-prefix-roots
-array-borrow-prefix-roots c = omega (arith, few-spaces _ _ _ _ _ (c .before .before .before .before .before .before .before .before .before .before .before .before .before .before .before .before .before .before .before .before .before .pre .0))
+array-borrow-prefix-roots c = omega (arith, (few-spaces _ _ _ _ _ (c .before .before .before .before .before .before .before .before .before .before .before .before .pre .0)))
 
-slice-aggregate-settle-6 : tie.Need-slice-aggregate-settle-6
-slice-aggregate-settle-6 c = row-part (length (c .before .before .before .before .before .before .before .before .before .before .before .before .before .before .before .before .before .before .before .before .before .before .args .keys .now)) (few-spaces _ _ _ _ _ (c .before .before .before .before .before .before .before .before .before .before .before .before .before .before .before .before .before .before .before .before .before .before .pre .0))
+slice-aggregate-settle-3 : tie.Need-slice-aggregate-settle-3
+slice-aggregate-settle-3 c = row-part (length (c .before .before .before .before .before .before .before .before .before .before .before .before .before .args .keys .now)) (few-spaces _ _ _ _ _ (c .before .before .before .before .before .before .before .before .before .before .before .before .before .pre .0))
 
 array-borrow-prefix-best : tie.Need-array-borrow-prefix-best
-array-borrow-prefix-best c = omega (arith, few-spaces _ _ _ _ _ (c .before .before .before .before .before .before .before .before .before .before .before .before .before .before .before .before .before .before .before .before .before .before .pre .0))
+array-borrow-prefix-best c = omega (arith, (few-spaces _ _ _ _ _ (c .before .before .before .before .before .before .before .before .before .before .before .before .before .pre .0)))
 
-slice-aggregate-settle-7 : tie.Need-slice-aggregate-settle-7
-slice-aggregate-settle-7 c = row-part (length (c .before .before .before .before .before .before .before .before .before .before .before .before .before .before .before .before .before .before .before .before .before .before .before .args .keys .now)) (few-spaces _ _ _ _ _ (c .before .before .before .before .before .before .before .before .before .before .before .before .before .before .before .before .before .before .before .before .before .before .before .pre .0))
+slice-aggregate-settle-4 : tie.Need-slice-aggregate-settle-4
+slice-aggregate-settle-4 c = row-part (length (c .before .before .before .before .before .before .before .before .before .before .before .before .before .before .args .keys .now)) (few-spaces _ _ _ _ _ (c .before .before .before .before .before .before .before .before .before .before .before .before .before .before .pre .0))
 
 array-borrow-prefix-by : tie.Need-array-borrow-prefix-by
-array-borrow-prefix-by c = omega (arith, few-spaces _ _ _ _ _ (c .before .before .before .before .before .before .before .before .before .before .before .before .before .before .before .before .before .before .before .before .before .before .before .pre .0))
+array-borrow-prefix-by c = omega (arith, (few-spaces _ _ _ _ _ (c .before .before .before .before .before .before .before .before .before .before .before .before .before .before .pre .0)))
 
-slice-aggregate-settle-8 : tie.Need-slice-aggregate-settle-8
-slice-aggregate-settle-8 c = row-part (length (c .before .before .before .before .before .before .before .before .before .before .before .before .before .before .before .before .before .before .before .before .before .before .before .before .args .keys .now)) (few-spaces _ _ _ _ _ (c .before .before .before .before .before .before .before .before .before .before .before .before .before .before .before .before .before .before .before .before .before .before .before .before .pre .0))
+slice-aggregate-settle-5 : tie.Need-slice-aggregate-settle-5
+slice-aggregate-settle-5 c = row-part (length (c .before .before .before .before .before .before .before .before .before .before .before .before .before .before .before .args .keys .now)) (few-spaces _ _ _ _ _ (c .before .before .before .before .before .before .before .before .before .before .before .before .before .before .before .pre .0))
 
 settle-requires : tie.Need-settle-requires
-settle-requires c κs = (c .before .before .before .before .before .before .before .before .before .before .before .before .before .before .before .before .before .before .before .before .before .before .before .before .before .pre .0, c .before .before .before .before .before .before .before .before .before .before .before .before .before .before .before .before .before .before .before .before .before .before .before .before .before .pre .1, c .before .before .before .before .before .before .before .before .before .before .before .before .before .before .before .before .before .before .before .before .before .before .before .before .before .pre .3, c .before .before .before .before .before .before .before .before .before .before .before .before .before .before .before .before .before .before .before .before .before .before .before .before .before .pre .4, c .before .before .before .before .before .before .before .before .before .before .before .before .before .draw-all .ensures .0, (let n = length-take-le (c .before .before .before .before .before .before .before .before .before .before .before .before .before .draw-all .result) (c .before .before .before .before .before .before .before .before .before .before .before .before .before .draw-all .last .1 .1 .1 .1 .1 .1 .1 .1 .1 .0) (omega (arith, c .before .before .before .before .before .before .before .before .before .before .before .before .before .draw-all .ensures .1, c .before .before .before .before .before .before .before .before .before .before .before .before .from2 .given, c .before .before .before .before .before .before .before .before .before .before .before .before .before .before .before .before .before .before .before .before .before .before .before .before .before .pre .4)) in omega (arith, n, c .before .before .before .before .before .before .before .before .before .before .before .before .before .draw-all .ensures .1, c .before .before .before .before .before .before .before .before .before .before .before .before .before .before .before .before .before .before .before .before .before .before .before .before .before .pre .4)), row-size (length (c .before .before .before .before .before .before .before .before .before .before .before .before .before .before .before .before .before .before .before .before .before .before .before .before .before .args .keys .now)) (few-spaces _ _ _ _ _ (c .before .before .before .before .before .before .before .before .before .before .before .before .before .before .before .before .before .before .before .before .before .before .before .before .before .pre .0)), row-size (length (c .before .before .before .before .before .before .before .before .before .before .before .before .before .before .before .before .before .before .before .before .before .before .before .before .before .args .keys .now)) (few-spaces _ _ _ _ _ (c .before .before .before .before .before .before .before .before .before .before .before .before .before .before .before .before .before .before .before .before .before .before .before .before .before .pre .0)), row-size (length (c .before .before .before .before .before .before .before .before .before .before .before .before .before .before .before .before .before .before .before .before .before .before .before .before .before .args .keys .now)) (few-spaces _ _ _ _ _ (c .before .before .before .before .before .before .before .before .before .before .before .before .before .before .before .before .before .before .before .before .before .before .before .before .before .pre .0)), row-size (length (c .before .before .before .before .before .before .before .before .before .before .before .before .before .before .before .before .before .before .before .before .before .before .before .before .before .args .keys .now)) (few-spaces _ _ _ _ _ (c .before .before .before .before .before .before .before .before .before .before .before .before .before .before .before .before .before .before .before .before .before .before .before .before .before .pre .0)), row-zeros (length (c .before .before .before .before .before .before .before .before .before .before .before .before .before .before .before .before .before .before .before .before .before .before .before .before .before .args .keys .now) + 1) 65, c .before .before .before .before .before .before .before .before .before .before .before .before .before .before .before .before .before .before .before .before .before .before .before .before .before .pre .5)
+settle-requires c κs = (c .before .before .before .before .before .before .before .before .before .before .before .before .before .before .before .before .pre .0, c .before .before .before .before .before .before .before .before .before .before .before .before .before .before .before .before .pre .1, c .before .before .before .before .before .before .before .before .before .before .before .before .before .before .before .before .pre .3, c .before .before .before .before .before .before .before .before .before .before .before .before .before .before .before .before .pre .4, c .before .before .before .before .before .before .before .draw-all .ensures .0, (let n = length-take-le (c .before .before .before .before .before .before .before .draw-all .result) (c .before .before .before .before .before .before .before .draw-all .last .1 .1 .1 .1 .1 .1 .1 .1 .1 .0) (omega (arith, c .before .before .before .before .before .before .before .draw-all .ensures .1, c .before .before .before .before .before .before .edges2 .given, c .before .before .before .before .before .before .before .before .before .before .before .before .before .before .before .before .pre .4)) in omega (arith, n, c .before .before .before .before .before .before .before .draw-all .ensures .1, c .before .before .before .before .before .before .before .before .before .before .before .before .before .before .before .before .pre .4)), row-size (length (c .before .before .before .before .before .before .before .before .before .before .before .before .before .before .before .before .args .keys .now)) (few-spaces _ _ _ _ _ (c .before .before .before .before .before .before .before .before .before .before .before .before .before .before .before .before .pre .0)), row-size (length (c .before .before .before .before .before .before .before .before .before .before .before .before .before .before .before .before .args .keys .now)) (few-spaces _ _ _ _ _ (c .before .before .before .before .before .before .before .before .before .before .before .before .before .before .before .before .pre .0)), row-size (length (c .before .before .before .before .before .before .before .before .before .before .before .before .before .before .before .before .args .keys .now)) (few-spaces _ _ _ _ _ (c .before .before .before .before .before .before .before .before .before .before .before .before .before .before .before .before .pre .0)), row-size (length (c .before .before .before .before .before .before .before .before .before .before .before .before .before .before .before .before .args .keys .now)) (few-spaces _ _ _ _ _ (c .before .before .before .before .before .before .before .before .before .before .before .before .before .before .before .before .pre .0)), row-zeros (length (c .before .before .before .before .before .before .before .before .before .before .before .before .before .before .before .before .args .keys .now) + 1) 65, c .before .before .before .before .before .before .before .before .before .before .before .before .before .before .before .before .pre .5)
 
 same-length : tie.Need-same-length
 same-length c = search needs
@@ -93,27 +63,18 @@ find-chain-spec =
     tie.close
     (tie.spec
     slice-aggregate-draw-all
-    slice-aggregate-draw-all-2
-    slice-aggregate-draw-all-3
-    slice-aggregate-draw-all-4
     draw-all-requires
     add-nodes
-    array-share-prefix-from
+    array-share-prefix-edges
     slice-aggregate-settle
-    array-share-prefix-to
-    slice-aggregate-settle-2
-    array-share-prefix-depths
-    slice-aggregate-settle-3
-    array-share-prefix-numbers
-    slice-aggregate-settle-4
     array-borrow-prefix-begun
-    slice-aggregate-settle-5
+    slice-aggregate-settle-2
     array-borrow-prefix-roots
-    slice-aggregate-settle-6
+    slice-aggregate-settle-3
     array-borrow-prefix-best
-    slice-aggregate-settle-7
+    slice-aggregate-settle-4
     array-borrow-prefix-by
-    slice-aggregate-settle-8
+    slice-aggregate-settle-5
     settle-requires
     same-length
     returns)

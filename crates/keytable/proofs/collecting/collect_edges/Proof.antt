@@ -6,7 +6,7 @@ use lib.ListN.{length, take}
 use Rattle.records.specs.KeyRecords.{keyDelegationRecord}
 use Rattle.records.proofs.KeyRecordsForm.{key-delegation-walks}
 use Rattle.keytable.specs.Loading.{keyTableAt}
-use Rattle.keytable.specs.Matching.{keyRequestOf, Drawn}
+use Rattle.keytable.specs.Matching.{keyRequestOf, DrawnOf}
 use Rattle.keytable.proofs.AnswersLaws.{delegation-got, delegation-bad}
 use Rattle.keytable.proofs.WalkingLaws.{Walking, walking-start, walking-fits, walking-at, walking-on, walking-well, walking-end}
 use Rattle.keytable.proofs.CollectingLaws.{drawn-none, drawn-more, drawn-all}
@@ -15,13 +15,15 @@ use Rattle.keytable.proofs.collecting.collect_edges.Statement.{statemen
 use Rattle.keytable.proofs.collecting.collect_edges.Tie as tie
 
 abbrev Inv-loop : tie.InvT-loop
-Inv-loop table request keys heads nexts from₀ to₀ depths₀ count at₀ m₀ i₀ from to depths at m i = Walking keyDelegationRecord key-delegation-walks table (keyTableAt table .delegations) count i at × Drawn (keyTableAt table) (keyRequestOf request .asked) keys i (take m from) (take m to) (take m depths) × (m ≤ i) × (length from ≡ length from₀) × (length to ≡ length to₀) × (length depths ≡ length depths₀)
+Inv-loop table request keys heads nexts edges₀ count at₀ m₀ i₀ edges at m i =
+    Walking keyDelegationRecord key-delegation-walks table (keyTableAt table .delegations) count i at × DrawnOf (keyTableAt table) (keyRequestOf request .asked) keys i (take m edges)
+    × (m ≤ i) × (length edges ≡ length edges₀)
 
 abbrev μ-loop : tie.MeasureT-loop
-μ-loop table request keys heads nexts from₀ to₀ depths₀ count at₀ m₀ i₀ from to depths at m i = count - i
+μ-loop table request keys heads nexts edges₀ count at₀ m₀ i₀ edges at m i = count - i
 
 loop-holds : tie.Need-loop-holds Inv-loop μ-loop
-loop-holds c = (walking-start _ key-delegation-walks _ _ _ (c .before .before .before .before .before .before .before .pre .0), drawn-none _ _ _, omega arith, refl, refl, refl)
+loop-holds c = (walking-start _ key-delegation-walks _ _ _ (c .before .before .before .before .before .pre .0), drawn-none _ _ _, omega arith, refl)
 
 sub-read-key-delegation : tie.Need-sub-read-key-delegation Inv-loop μ-loop
 sub-read-key-delegation c = omega (arith, c .before .loop .inv .0 .within)
@@ -44,38 +46,26 @@ enum-told c = search needs
 same-length : tie.Need-same-length Inv-loop μ-loop
 same-length c = c .before .before .before .before .before .loop .inv .3
 
-same-length-2 : tie.Need-same-length-2 Inv-loop μ-loop
-same-length-2 c = c .before .before .before .before .before .loop .inv .4
-
-same-length-3 : tie.Need-same-length-3 Inv-loop μ-loop
-same-length-3 c = c .before .before .before .before .before .loop .inv .5
-
 returns : tie.Need-returns Inv-loop μ-loop
 returns c = absurd (walking-well _ _ _ _ _ _ _ (c .before .before .before .before .before .loop .inv .0) (c .before .before .before .before .loop-test .taken) _ (delegation-bad _ _ _ (c .before .before .read-key-delegation .ensures) (c .enum-told .given .1)))
 
 take-delegation-requires : tie.Need-take-delegation-requires Inv-loop μ-loop
-take-delegation-requires c κs = (c .before .before .before .before .before .before .before .before .before .before .before .before .before .before .before .before .before .pre .2, c .before .before .before .before .before .before .before .before .before .before .before .before .before .before .before .before .before .pre .3, c .before .before .before .before .before .before .before .before .before .before .before .before .before .before .before .before .before .pre .1 .delegations _ _ (walking-at _ _ _ _ _ _ _ (c .before .before .before .before .before .before .before .before .before .loop .inv .0) (c .before .before .before .before .before .before .before .before .loop-test .taken) _ _ (delegation-got _ _ _ _ (c .before .before .before .before .before .before .read-key-delegation .ensures) (c .before .before .before .before .read .given .1))) .depth, omega (arith, c .before .before .before .before .before .before .before .before .before .loop .inv .2, c .before .before .before .before .before .before .before .before .before .loop .inv .3, c .before .before .before .before .before .before .before .before .loop-test .taken, c .before .before .before .before .before .before .before .before .before .before .before .before .before .before .before .before .before .pre .4), omega (arith, c .before .before .before .before .before .before .before .before .before .loop .inv .2, c .before .before .before .before .before .before .before .before .before .loop .inv .4, c .before .before .before .before .before .before .before .before .loop-test .taken, c .before .before .before .before .before .before .before .before .before .before .before .before .before .before .before .before .before .pre .5), omega (arith, c .before .before .before .before .before .before .before .before .before .loop .inv .2, c .before .before .before .before .before .before .before .before .before .loop .inv .5, c .before .before .before .before .before .before .before .before .loop-test .taken, c .before .before .before .before .before .before .before .before .before .before .before .before .before .before .before .before .before .pre .6))
+take-delegation-requires c κs = (c .before .before .before .before .before .before .before .before .before .before .before .before .before .pre .2, c .before .before .before .before .before .before .before .before .before .before .before .before .before .pre .3, c .before .before .before .before .before .before .before .before .before .before .before .before .before .pre .1 .delegations _ _ (walking-at _ _ _ _ _ _ _ (c .before .before .before .before .before .before .before .loop .inv .0) (c .before .before .before .before .before .before .loop-test .taken) _ _ (delegation-got _ _ _ _ (c .before .before .before .before .read-key-delegation .ensures) (c .before .before .read .given .1))) .depth, omega (arith, c .before .before .before .before .before .before .before .loop .inv .2, c .before .before .before .before .before .before .before .loop .inv .3, c .before .before .before .before .before .before .loop-test .taken, c .before .before .before .before .before .before .before .before .before .before .before .before .before .pre .4))
 
 add-at : tie.Need-add-at Inv-loop μ-loop
-add-at c = omega (arith, walking-fits _ _ _ _ _ _ _ (c .before .before .before .before .before .before .before .before .before .before .before .before .before .before .before .before .loop .inv .0) (c .before .before .before .before .before .before .before .before .before .before .before .before .before .before .before .loop-test .taken) _ _ (delegation-got _ _ _ _ (c .before .before .before .before .before .before .before .before .before .before .before .before .before .read-key-delegation .ensures) (c .before .before .before .before .before .before .before .before .before .before .before .read .given .1)), c .before .before .before .before .before .before .before .before .before .before .before .before .before .before .before .before .before .before .before .before .before .before .before .before .good .0)
+add-at c = omega (arith, walking-fits _ _ _ _ _ _ _ (c .before .before .before .before .before .before .before .before .before .before .loop .inv .0) (c .before .before .before .before .before .before .before .before .before .loop-test .taken) _ _ (delegation-got _ _ _ _ (c .before .before .before .before .before .before .before .read-key-delegation .ensures) (c .before .before .before .before .before .read .given .1)), c .before .before .before .before .before .before .before .before .before .before .before .before .before .before .before .before .good .0)
 
 add-i : tie.Need-add-i Inv-loop μ-loop
-add-i c = omega (arith, c .before .before .before .before .before .before .before .before .before .before .before .before .before .before .before .loop-test .taken, c .before .before .before .before .before .before .before .before .before .before .before .before .before .before .before .before .loop .inv .0 .counted, c .before .before .before .before .before .before .before .before .before .before .before .before .before .before .before .before .before .before .before .before .before .before .before .before .pre .1 .fewDelegations)
+add-i c = omega (arith, c .before .before .before .before .before .before .before .before .before .loop-test .taken, c .before .before .before .before .before .before .before .before .before .before .loop .inv .0 .counted, c .before .before .before .before .before .before .before .before .before .before .before .before .before .before .before .before .pre .1 .fewDelegations)
 
 loop-less : tie.Need-loop-less Inv-loop μ-loop
-loop-less c = omega (arith, c .before .before .before .before .before .before .before .before .before .before .before .before .before .before .before .loop-test .taken)
+loop-less c = omega (arith, c .before .before .before .before .before .before .before .before .before .loop-test .taken)
 
 loop-again : tie.Need-loop-again Inv-loop μ-loop
-loop-again c = let d = delegation-got _ _ _ _ (c .before .before .before .before .before .before .before .before .before .before .before .before .before .read-key-delegation .ensures) (c .before .before .before .before .before .before .before .before .before .before .before .read .given .1) in (walking-on _ _ _ _ _ _ _ (c .before .before .before .before .before .before .before .before .before .before .before .before .before .before .before .before .loop .inv .0) (c .before .before .before .before .before .before .before .before .before .before .before .before .before .before .before .loop-test .taken) _ _ d, drawn-more _ _ _ _ _ (walking-at _ _ _ _ _ _ _ (c .before .before .before .before .before .before .before .before .before .before .before .before .before .before .before .before .loop .inv .0) (c .before .before .before .before .before .before .before .before .before .before .before .before .before .before .before .loop-test .taken) _ _ d) _ _ _ (c .before .before .before .before .before .before .before .before .before .before .before .before .before .before .before .before .loop .inv .1) (c .before .before .before .before .before .before .before .before .before .before .before .before .before .before .before .before .before .before .before .before .before .before .before .before .pre .2 .apart) _ _ _ (c .before .before .before .before .before .before .take-delegation .ensures .0), omega (arith, c .before .before .before .before .before .before .before .before .before .before .before .before .before .before .before .before .loop .inv .2, c .before .before .before .before .before .before .take-delegation .ensures .1), c .before .before .before .before .before .from .given ∙ c .before .before .before .before .before .before .before .before .before .before .before .before .before .before .before .before .loop .inv .3, c .before .before .before .to .given ∙ c .before .before .before .before .before .before .before .before .before .before .before .before .before .before .before .before .loop .inv .4, c .before .depths .given ∙ c .before .before .before .before .before .before .before .before .before .before .before .before .before .before .before .before .loop .inv .5)
+loop-again c = let d = (delegation-got _ _ _ _ (c .before .before .before .before .before .before .before .read-key-delegation .ensures) (c .before .before .before .before .before .read .given .1)) in (walking-on _ _ _ _ _ _ _ (c .before .before .before .before .before .before .before .before .before .before .loop .inv .0) (c .before .before .before .before .before .before .before .before .before .loop-test .taken) _ _ d, drawn-more _ _ _ _ _ (walking-at _ _ _ _ _ _ _ (c .before .before .before .before .before .before .before .before .before .before .loop .inv .0) (c .before .before .before .before .before .before .before .before .before .loop-test .taken) _ _ d) _ _ _ (c .before .before .before .before .before .before .before .before .before .before .loop .inv .1) (c .before .before .before .before .before .before .before .before .before .before .before .before .before .before .before .before .pre .2 .apart) _ _ _ (c .before .before .take-delegation .ensures .0), omega (arith, c .before .before .before .before .before .before .before .before .before .before .loop .inv .2, c .before .before .take-delegation .ensures .1), c .before .edges .given ∙ c .before .before .before .before .before .before .before .before .before .before .loop .inv .3)
 
-same-length-4 : tie.Need-same-length-4 Inv-loop μ-loop
-same-length-4 c = c .before .loop .inv .3
-
-same-length-5 : tie.Need-same-length-5 Inv-loop μ-loop
-same-length-5 c = c .before .loop .inv .4
-
-same-length-6 : tie.Need-same-length-6 Inv-loop μ-loop
-same-length-6 c = c .before .loop .inv .5
+same-length-2 : tie.Need-same-length-2 Inv-loop μ-loop
+same-length-2 c = c .before .loop .inv .3
 
 returns-2 : tie.Need-returns-2 Inv-loop μ-loop
 returns-2 c = (drawn-all _ _ _ _ _ _ _ _ (c .before .loop .inv .1) (walking-end _ _ _ _ _ _ _ (c .before .loop .inv .0) (c .loop-test .left)), omega (arith, c .before .loop .inv .2, c .before .loop .inv .0 .most))
@@ -94,15 +84,11 @@ collect-edges-spec =
     enum-known-read
     enum-told
     same-length
-    same-length-2
-    same-length-3
     returns
     take-delegation-requires
     add-at
     add-i
     loop-less
     loop-again
-    same-length-4
-    same-length-5
-    same-length-6
+    same-length-2
     returns-2)

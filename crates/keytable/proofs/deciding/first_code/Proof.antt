@@ -9,7 +9,7 @@ slice-aggregate-reach : tie.Need-slice-aggregate-reach
 slice-aggregate-reach c = search needs
 
 reach-requires : tie.Need-reach-requires
-reach-requires c κs = (c .before .before .before .before .before .before .pre .0, record { codes = c .before .before .before .before .before .before .pre .1; room = omega (arith, c .before .before .before .before .before .before .pre .2) })
+reach-requires c κs = (c .before .before .before .before .pre .0, record { codes = c .before .before .before .before .pre .1; room = omega (arith, c .before .before .before .before .pre .2) })
 
 slice-read-result : tie.Need-slice-read-result
 slice-read-result c = search needs

@@ -15,41 +15,23 @@ slice-aggregate-collect c = search needs
 slice-aggregate-collect-2 : tie.Need-slice-aggregate-collect-2
 slice-aggregate-collect-2 c = search needs
 
-slice-aggregate-collect-3 : tie.Need-slice-aggregate-collect-3
-slice-aggregate-collect-3 c = search needs
-
-slice-aggregate-collect-4 : tie.Need-slice-aggregate-collect-4
-slice-aggregate-collect-4 c = search needs
-
 collect-requires : tie.Need-collect-requires
-collect-requires c κs = (c .before .before .before .before .before .pre, all-empty 513, omega arith, omega arith, omega arith, omega arith)
+collect-requires c κs = (c .before .before .before .pre, all-empty 513, omega arith, omega arith)
 
-array-share-prefix-from : tie.Need-array-share-prefix-from
-array-share-prefix-from c = search needs
+array-share-prefix-edges : tie.Need-array-share-prefix-edges
+array-share-prefix-edges c = search needs
 
 slice-aggregate-first-code : tie.Need-slice-aggregate-first-code
-slice-aggregate-first-code c = sym (length-take-le _ (c .before .before .before .before .before .collect .last .1 .1 .1 .0) (omega (arith, c .before .before .before .before .from2 .given, c .before .before .before .before .before .collect .ensures .1)))
-
-array-share-prefix-to : tie.Need-array-share-prefix-to
-array-share-prefix-to c = search needs
+slice-aggregate-first-code c = sym (length-take-le _ (c .before .before .before .collect .last .1 .1 .1 .0) (omega (arith, c .before .before .edges2 .given, c .before .before .before .collect .ensures .1)))
 
 slice-aggregate-first-code-2 : tie.Need-slice-aggregate-first-code-2
-slice-aggregate-first-code-2 c = sym (length-take-le _ (c .before .before .before .before .before .before .collect .last .1 .1 .1 .1 .0) (omega (arith, c .before .before .before .before .to2 .given, c .before .before .before .before .before .before .collect .ensures .1)))
-
-array-share-prefix-depths : tie.Need-array-share-prefix-depths
-array-share-prefix-depths c = search needs
-
-slice-aggregate-first-code-3 : tie.Need-slice-aggregate-first-code-3
-slice-aggregate-first-code-3 c = sym (length-take-le _ (c .before .before .before .before .before .before .before .collect .last .1 .1 .1 .1 .1 .0) (omega (arith, c .before .before .before .before .depths2 .given, c .before .before .before .before .before .before .before .collect .ensures .1)))
-
-slice-aggregate-first-code-4 : tie.Need-slice-aggregate-first-code-4
-slice-aggregate-first-code-4 c = search needs
+slice-aggregate-first-code-2 c = search needs
 
 first-code-requires : tie.Need-first-code-requires
-first-code-requires c κs = (matched-edges _ _ _ _ _ _ (c .before .before .before .before .before .before .before .before .collect .ensures .0) (first-few (c .before .before .before .before .before .before .before .before .collect .last .1 .1 .1 .0) (c .before .before .before .before .before .before .before .before .collect .result) _ _ (c .before .before .before .before .before .before .before .before .collect .ensures .1) (omega arith)), c .before .before .before .before .before .before .before .before .collect .ensures .0 .given .codes, c .before .before .before .before .best2 .given)
+first-code-requires c κs = (matched-edges _ _ _ _ (c .before .before .before .before .collect .ensures .0) (first-few (c .before .before .before .before .collect .last .1 .1 .1 .0) (c .before .before .before .before .collect .result) _ _ (c .before .before .before .before .collect .ensures .1) (omega arith)), c .before .before .before .before .collect .ensures .0 .given .codes, c .before .before .best2 .given)
 
 returns : tie.Need-returns
-returns c = (c .before .first-code .ensures .verdict _ _ (c .before .before .before .before .before .before .before .before .before .before .collect .ensures .0), c .before .first-code .ensures .most)
+returns c = (c .before .first-code .ensures .verdict _ _ (c .before .before .before .before .before .before .collect .ensures .0), c .before .first-code .ensures .most)
 
 pub greatest-code-spec : {M : Type 1} → statement M
 greatest-code-spec =
@@ -57,15 +39,9 @@ greatest-code-spec =
     (tie.spec
     slice-aggregate-collect
     slice-aggregate-collect-2
-    slice-aggregate-collect-3
-    slice-aggregate-collect-4
     collect-requires
-    array-share-prefix-from
+    array-share-prefix-edges
     slice-aggregate-first-code
-    array-share-prefix-to
     slice-aggregate-first-code-2
-    array-share-prefix-depths
-    slice-aggregate-first-code-3
-    slice-aggregate-first-code-4
     first-code-requires
     returns)

@@ -9,7 +9,7 @@ is-asked-requires : tie.Need-is-asked-requires
 is-asked-requires c κs = search needs
 
 returns : tie.Need-returns
-returns c = (edge-other _ _ _ (c .before .before .before .before .before .before .before .before .before .before .before .before .before .args .from .now) (c .before .before .before .before .before .before .before .before .before .before .before .before .before .args .to .now) (c .before .before .before .before .before .before .before .before .before .before .before .before .before .args .depths .now) (c .before .before .before .before .before .before .before .before .before .before .before .before .before .args .m) _ (c .before .is-asked .ensures) (is-not (c .if1 .taken)), omega arith)
+returns c = (edge-other _ _ _ (c .before .before .before .before .before .before .before .before .before .before .before .args .edges .now) (c .before .before .before .before .before .before .before .before .before .before .before .args .m) _ (c .before .is-asked .ensures) (is-not (c .if1 .taken)), omega arith)
 
 find-node-requires : tie.Need-find-node-requires
 find-node-requires c κs = search needs
@@ -21,7 +21,7 @@ enum-told : tie.Need-enum-told
 enum-told c = search needs
 
 returns-2 : tie.Need-returns-2
-returns-2 c = (edge-from-nobody _ _ _ (c .before .before .before .before .before .before .before .before .before .before .before .before .before .before .before .before .args .from .now) (c .before .before .before .before .before .before .before .before .before .before .before .before .before .before .before .before .args .to .now) (c .before .before .before .before .before .before .before .before .before .before .before .before .before .before .before .before .args .depths .now) (c .before .before .before .before .before .before .before .before .before .before .before .before .before .before .before .before .args .m) _ (c .before .before .before .before .is-asked .ensures) _ (c .before .before .find-node .ensures) (c .enum-told .given .1), omega arith)
+returns-2 c = (edge-from-nobody _ _ _ (c .before .before .before .before .before .before .before .before .before .before .before .before .before .before .args .edges .now) (c .before .before .before .before .before .before .before .before .before .before .before .before .before .before .args .m) _ (c .before .before .before .before .is-asked .ensures) _ (c .before .before .find-node .ensures) (c .enum-told .given .1), omega arith)
 
 find-node-requires-2 : tie.Need-find-node-requires-2
 find-node-requires-2 c κs = search needs
@@ -33,49 +33,28 @@ enum-told-2 : tie.Need-enum-told-2
 enum-told-2 c = search needs
 
 returns-3 : tie.Need-returns-3
-returns-3 c = (edge-to-nobody _ _ _ (c .before .before .before .before .before .before .before .before .before .before .before .before .before .before .before .before .before .before .before .before .args .from .now) (c .before .before .before .before .before .before .before .before .before .before .before .before .before .before .before .before .before .before .before .before .args .to .now) (c .before .before .before .before .before .before .before .before .before .before .before .before .before .before .before .before .before .before .before .before .args .depths .now) (c .before .before .before .before .before .before .before .before .before .before .before .before .before .before .before .before .before .before .before .before .args .m) _ (c .before .before .before .before .before .before .before .before .is-asked .ensures) _ (c .before .before .before .before .before .before .find-node .ensures) _ (c .before .before .find-node2 .ensures) (c .enum-told2 .given .1), omega arith)
-
-cast-from : tie.Need-cast-from
-cast-from c = omega (arith, c .before .before .before .before .before .before .before .before .before .before .before .before .before .before .before .before .before .before .before .before .before .pre .1, node-found _ _ _ (c .before .before .before .before .before .before .before .find-node .ensures) _ (c .before .before .before .before .before .first .given .1) .there)
-
-mul-from : tie.Need-mul-from
-mul-from c = omega (arith, c .before .before .before .before .before .before .before .before .before .before .before .before .before .before .before .before .before .before .before .before .before .pre .3, c .before .before .before .before .before .before .before .before .before .before .before .before .before .before .before .before .before .before .before .before .before .good .1 .1 .1 .1 .1 .0)
-
-slice-write-from : tie.Need-slice-write-from
-slice-write-from c = search needs
-
-cast-to : tie.Need-cast-to
-cast-to c = omega (arith, c .before .before .before .before .before .before .before .before .before .before .before .before .before .before .before .before .before .before .before .before .before .pre .1, node-found _ _ _ (c .before .before .before .find-node2 .ensures) _ (c .before .second .given .1) .there)
-
-mul-to : tie.Need-mul-to
-mul-to c = omega (arith, c .before .before .before .before .before .before .before .before .before .before .before .before .before .before .before .before .before .before .before .before .before .pre .4, c .before .before .before .before .before .before .before .before .before .before .before .before .before .before .before .before .before .before .before .before .before .good .1 .1 .1 .1 .1 .1 .0)
-
-slice-write-to : tie.Need-slice-write-to
-slice-write-to c = search needs
+returns-3 c = (edge-to-nobody _ _ _ (c .before .before .before .before .before .before .before .before .before .before .before .before .before .before .before .before .before .before .args .edges .now) (c .before .before .before .before .before .before .before .before .before .before .before .before .before .before .before .before .before .before .args .m) _ (c .before .before .before .before .before .before .before .before .is-asked .ensures) _ (c .before .before .before .before .before .before .find-node .ensures) _ (c .before .before .find-node2 .ensures) (c .enum-told2 .given .1), omega arith)
 
 number-requires : tie.Need-number-requires
 number-requires c κs = search needs
 
-cast-depths : tie.Need-cast-depths
-cast-depths c = search needs
+edge-requires : tie.Need-edge-requires
+edge-requires c κs = (omega (arith, c .before .before .before .before .before .before .before .before .before .before .before .before .before .before .before .before .before .before .before .before .pre .1, node-found _ _ _ (c .before .before .before .before .before .before .before .before .find-node .ensures) _ (c .before .before .before .before .before .before .first .given .1) .there), omega (arith, c .before .before .before .before .before .before .before .before .before .before .before .before .before .before .before .before .before .before .before .before .pre .1, node-found _ _ _ (c .before .before .before .before .find-node2 .ensures) _ (c .before .before .second .given .1) .there), omega (arith, c .number .ensures, c .before .before .before .before .before .before .before .before .before .before .before .before .before .before .before .before .before .before .before .before .pre .2), omega arith)
 
-slice-write-depths : tie.Need-slice-write-depths
-slice-write-depths c = search needs
+mul-edges : tie.Need-mul-edges
+mul-edges c = omega (arith, c .before .before .before .before .before .before .before .before .before .before .before .before .before .before .before .before .before .before .before .before .before .pre .3, c .before .before .before .before .before .before .before .before .before .before .before .before .before .before .before .before .before .before .before .before .before .good .1 .1 .1 .1 .1 .0)
+
+slice-write-edges : tie.Need-slice-write-edges
+slice-write-edges c = search needs
 
 add-result : tie.Need-add-result
-add-result c = omega (arith, c .before .before .before .before .before .before .before .before .before .before .before .before .before .before .before .before .before .before .before .before .before .before .pre .3, c .before .before .before .before .before .before .before .before .before .before .before .before .before .before .before .before .before .before .before .before .before .before .good .1 .1 .1 .1 .1 .0)
+add-result c = omega (arith, c .before .before .before .before .before .before .before .before .before .before .before .before .before .before .before .before .before .before .before .before .before .pre .3, c .before .before .before .before .before .before .before .before .before .before .before .before .before .before .before .before .before .before .before .before .before .good .1 .1 .1 .1 .1 .0)
 
 same-length : tie.Need-same-length
 same-length c = search needs
 
-same-length-2 : tie.Need-same-length-2
-same-length-2 c = search needs
-
-same-length-3 : tie.Need-same-length-3
-same-length-3 c = search needs
-
 returns-4 : tie.Need-returns-4
-returns-4 c = (edge-drawn _ _ _ (c .before .before .before .before .before .before .before .before .before .before .before .before .before .before .before .before .before .before .before .before .before .before .args .from .now) (c .before .before .before .before .before .before .before .before .before .before .before .before .before .before .before .before .before .before .before .before .before .before .args .to .now) (c .before .before .before .before .before .before .before .before .before .before .before .before .before .before .before .before .before .before .before .before .before .before .args .depths .now) _ _ (c .before .before .before .before .before .before .before .before .before .before .is-asked .ensures) _ (c .before .before .before .before .before .before .before .before .find-node .ensures) _ (c .before .before .before .before .find-node2 .ensures) (is-so (c .before .before .before .before .before .before .before .before .before .if1 .left)) _ _ _ (c .before .before .before .before .before .before .first .given .1) (c .before .before .second .given .1) (c .number .ensures) (c .before .before .before .before .before .before .before .before .before .before .before .before .before .before .before .before .before .before .before .before .before .before .pre .3) (c .before .before .before .before .before .before .before .before .before .before .before .before .before .before .before .before .before .before .before .before .before .before .pre .4) (c .before .before .before .before .before .before .before .before .before .before .before .before .before .before .before .before .before .before .before .before .before .before .pre .5), omega arith)
+returns-4 c = (edge-drawn _ _ _ (c .before .before .before .before .before .before .before .before .before .before .before .before .before .before .before .before .before .before .before .before .before .args .edges .now) (c .before .before .before .before .before .before .before .before .before .before .before .before .before .before .before .before .before .before .before .before .before .args .m) _ (c .before .before .before .before .before .before .before .before .before .before .before .is-asked .ensures) _ (c .before .before .before .before .before .before .before .before .before .find-node .ensures) _ (c .before .before .before .before .before .find-node2 .ensures) (is-so (c .before .before .before .before .before .before .before .before .before .before .if1 .left)) _ _ _ _ (c .before .before .before .before .before .before .before .first .given .1) (c .before .before .before .second .given .1) (c .before .number .ensures) (c .edge .ensures) (c .before .before .before .before .before .before .before .before .before .before .before .before .before .before .before .before .before .before .before .before .before .pre .1) (c .before .before .before .before .before .before .before .before .before .before .before .before .before .before .before .before .before .before .before .before .before .pre .2) (c .before .before .before .before .before .before .before .before .before .before .before .before .before .before .before .before .before .before .before .before .before .pre .3), omega arith)
 
 pub take-delegation-spec : {M : Type 1} → statement M
 take-delegation-spec =
@@ -91,17 +70,10 @@ take-delegation-spec =
     enum-known-second
     enum-told-2
     returns-3
-    cast-from
-    mul-from
-    slice-write-from
-    cast-to
-    mul-to
-    slice-write-to
     number-requires
-    cast-depths
-    slice-write-depths
+    edge-requires
+    mul-edges
+    slice-write-edges
     add-result
     same-length
-    same-length-2
-    same-length-3
     returns-4)
