@@ -22,7 +22,7 @@ kinds:
   1 read table, 2 read request, 3 read derivation, 4 read key table, 5 read key request,
   6 name sheet, 10 decide, 11 check, 12 translate, 13 decide by keys
 groups:
-  reading, names, checking, deciding, translating
+  reading, names, checking, deciding, deciding-small, translating
 ";
 
 /// Wrong words on the command line.

@@ -31,6 +31,7 @@ fn the_stored_cases_are_made_here() {
         by_keys,
         translations,
         made.collect(),
+        rows::deciding_small(),
     ] {
         for case in &group {
             write_case(&mut bytes, case);

@@ -13,6 +13,14 @@ use crate::table::{AccessRecord, Delegation, Space, Table, Target};
 
 /// The rows of decisions.
 pub fn rows() -> Vec<Case> {
+    let mut rows = small_rows();
+    rows.extend(full_size());
+    rows
+}
+
+/// Those of small tables: a grant there is shown in one way by whoever goes by
+/// the rules in the table's order.
+pub fn small_rows() -> Vec<Case> {
     let mut rows = of_the_specimen();
     rows.extend(refusals());
     rows.extend(rooms());
@@ -22,7 +30,6 @@ pub fn rows() -> Vec<Case> {
     rows.extend(without_a_space());
     rows.extend(owners());
     rows.extend(dead_names());
-    rows.extend(full_size());
     rows
 }
 

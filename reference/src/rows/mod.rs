@@ -26,6 +26,7 @@ pub fn group(name: &str) -> Option<Vec<Case>> {
         "names" => Some(names()),
         "checking" => Some(checking()),
         "deciding" => Some(deciding()),
+        "deciding-small" => Some(deciding_small()),
         "translating" => Some(translating()),
         _ => None,
     }
@@ -51,6 +52,12 @@ pub fn checking() -> Vec<Case> {
 /// Deciding: every row of decisions.
 pub fn deciding() -> Vec<Case> {
     deciding::rows()
+}
+
+/// Deciding over small tables: all of them but those of full size, where many
+/// derivations have the greatest depth.
+pub fn deciding_small() -> Vec<Case> {
+    deciding::small_rows()
 }
 
 /// Translating: every row of key tables, of translations and of decisions over
