@@ -4,7 +4,7 @@
 
 #include <stddef.h>
 
-/* Calls `call(with)` on a stack of its own, and returns how many bytes of it were written, those of `call` included. */
-size_t stack_of(void (*call)(void *), void *with);
+/* Makes the call on a stack of its own, and returns how many bytes of it were written, those of `call` itself included. */
+size_t stack_of(void (*call)(void));
 
 #endif
