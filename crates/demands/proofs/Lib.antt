@@ -1,1 +1,6 @@
 pub mod FewLaws
+pub mod ExistsLaws
+pub mod DemandOne
+pub mod OutcomeLaws
+pub mod DemandTwo
+pub mod DemandThree
