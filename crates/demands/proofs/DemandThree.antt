@@ -6,15 +6,14 @@ use mathlib.Core.Option.{some}
 use Prim.Native.Nat.{ℕ, _≤_}
 use native.Mathlib.Omega.{arith}
 use lib.ListN.{length, take}
-use Rattle.rules.specs.Tables.{Asked, Request, Table}
+use Rattle.rules.specs.Tables.{Request, Table}
 use Rattle.rules.specs.Names.{Means, TargetMeans}
 use Rattle.rules.specs.Access.{Setting, Granted, setting}
-use Rattle.rules.specs.KeyTables.{KeyTable, KeyRequest, keySetting}
+use Rattle.rules.specs.KeyTables.{KeyRequest, keySetting}
 use Rattle.rules.specs.Translation.{Translates}
 use Rattle.rules.specs.Verdicts.{Verdict, Has, greatest, nothing}
 use Rattle.rules.specs.Verdicts as verdict
 use Rattle.rules.specs.declared.Key.{Key}
-use Rattle.rules.specs.declared.Space.{Space}
 use Rattle.rules.specs.declared.Depth.{Depth}
 use Rattle.rules.proofs.GreatestLaws.{has-one}
 use Rattle.rules.proofs.NamesLaws.{target-one}
@@ -33,9 +32,8 @@ use Rattle.keytable.specs.declared.KeyAnswer.{KeyAnswer}
 use Rattle.keytable.specs.declared.KeyAnswer.the-variants as byKeys
 use Rattle.translation.specs.Promise.{Answers, badTable, room, done}
 use Rattle.translation.specs.declared.Translated.{Translated}
-use Rattle.translation.specs.declared.Translated.the-variants as translated
 use Rattle.translation.proofs.Theorems.{Loads, translation-loads}
-use Rattle.demands.specs.DemandTwo.{Accepted, Room}
+use Rattle.demands.specs.DemandTwo.{Accepted}
 use Rattle.demands.specs.DemandThree.{Succeeds, AsksTheSame, SameAnswer, TakenOut, SameDecision, DemandThree}
 use Rattle.demands.proofs.OutcomeLaws.{Outcome, yes, no, outcome}
 

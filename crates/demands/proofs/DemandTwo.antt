@@ -1,7 +1,6 @@
 -- Demand 2 is met.
 use mathlib.Core.Path.{_≡_, refl, sym, _∙_, ap, subst}
 use mathlib.Core.List.{List}
-use mathlib.Core.Logic.{_↔_}
 use mathlib.Core.Option.{some}
 use Prim.Native.Nat.{ℕ, _≤_}
 use native.Mathlib.Nat.{zero-add}
@@ -23,7 +22,7 @@ use Rattle.wire.proofs.PlacedLaws.{placed-take}
 use Rattle.records.specs.DerivationBytes.{Laid, readDerivation, mostDerivation, derivationFields}
 use Rattle.records.proofs.ParsedLaws.{got-or-bad, some-or-none, got-one, some-one}
 use Rattle.records.proofs.RequestsForm.{whole-form}
-use Rattle.table.specs.ReadTable.{Laid as LaidTable, tableOf, readTable}
+use Rattle.table.specs.ReadTable.{Laid as LaidTable, tableOf}
 use Rattle.table.proofs.Theorems.{table-form}
 use Rattle.checker.specs.Promise.{ChecksGood, badRequest, notDerivation, accepted, Checks, badTable, goodTable}
 use Rattle.checker.specs.declared.Checked.{Checked}
@@ -32,7 +31,7 @@ use Rattle.decision.specs.Promise.{DecidesGood, Decides}
 use Rattle.decision.specs.Promise as promise
 use Rattle.decision.specs.declared.Decided.{Decided}
 use Rattle.decision.specs.declared.Decided.the-variants as decided
-use Rattle.demands.specs.DemandTwo.{Accepted, Room, GrantedExactly, HoldsHere, DemandTwo}
+use Rattle.demands.specs.DemandTwo.{Accepted, GrantedExactly, HoldsHere, DemandTwo}
 use Rattle.demands.proofs.OutcomeLaws.{Outcome, yes, no, outcome}
 
 -- ---- granted exactly
@@ -73,7 +72,7 @@ good-written (promise.overrun p m f x l) d n h = let z : _≡_ {A = ℕ} 0 1 = c
 good-written {t = t} {request = request} {derivation₀ = derivation₀} (promise.granted {r = r} {d = c} {bytes = bytes} p m f x) d n h =
     let w : readDerivation (take (length bytes) (placed derivation₀ 0 bytes)) ≡ some (x .laid) = ap readDerivation (front derivation₀ bytes (omega (arith, derivation-short bytes (x .laid) (x .read), p .roomForDerivation))) ∙ x .read in
     let y : ChecksGood t request (take (length bytes) (placed derivation₀ 0 bytes)) (checked.Accepted c)
-        = accepted (p .accepted) w (subst (λ (v : Derivation). Holds t r v (c .0)) (sym (x .same)) (x .shown .holds)) in
+    = accepted (p .accepted) w (subst (λ (v : Derivation). Holds t r v (c .0)) (sym (x .same)) (x .shown .holds)) in
     let e : c ≡ d = cc h in
     let g : length bytes ≡ n = cc h in
     subst (λ (z : Depth). ChecksGood t request (take n (placed derivation₀ 0 bytes)) (checked.Accepted z)) e

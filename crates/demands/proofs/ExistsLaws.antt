@@ -10,7 +10,7 @@ use lib.Dec.{T, leb, leb→le, nleb→lt}
 use lib.ListN.{length, drop, length-append, length-drop, List·getD-append}
 use lib.Seq.{drop-append-seam}
 use Rattle.rules.specs.Tables.{Request, Table}
-use Rattle.rules.specs.Ranges.{Good, GoodKeyTable, mostBindings, mostDelegations}
+use Rattle.rules.specs.Ranges.{Good, mostBindings, mostDelegations}
 use Rattle.rules.specs.Names.{Means, TargetMeans, BindingMeans}
 use Rattle.rules.specs.Access.{setting}
 use Rattle.rules.specs.Sheets.{entry, Exact}
@@ -18,7 +18,7 @@ use Rattle.rules.specs.Rounds.{sheetOf}
 use Rattle.rules.specs.KeyTables.{KeyRequest}
 use Rattle.rules.specs.Derivations.{Holds, only, Shown}
 use Rattle.rules.specs.Checking.{holdsAt}
-use Rattle.rules.specs.Greatest.{teller, keyVerdict}
+use Rattle.rules.specs.Greatest.{teller}
 use Rattle.rules.specs.Translation.{translate}
 use Rattle.rules.specs.Verdicts.{Verdict, Has, greatest, nothing, DecidesByKeys}
 use Rattle.rules.specs.Verdicts as rule
@@ -181,8 +181,11 @@ checks-good t good request derivation = asked (readRequest (length (t .names .sp
         shown (some v) f = held (holdsAt t r (v .derivation)) refl
           where
             held : (o : Option ℕ) → holdsAt t r (v .derivation) ≡ o → (a : Checked) × ChecksGood t request derivation a
-            held none z = (checked.NotDerivation, checks.notDerivation e (λ w d g h.
-                some-or-none (the-check-is-right t (good .names) r (v .derivation) d .1 (subst (λ (y : Laid). Holds t r (y .derivation) d) (some-one g f) h)) z))
+            held none z = (
+              checked.NotDerivation,
+              checks.notDerivation e (λ w d g h.
+                  some-or-none (the-check-is-right t (good .names) r (v .derivation) d .1 (subst (λ (y : Laid). Holds t r (y .derivation) d) (some-one g f) h)) z),
+            )
             held (some d) z = (checked.Accepted (record { 0 = d }), checks.accepted e f (the-check-is-right t (good .names) r (v .derivation) d .0 z))
 
 pub checks-something : (table request derivation : List ℕ) → Bytes table → (a : Checked) × Checks table request derivation a

@@ -4,3 +4,5 @@ pub mod DemandOne
 pub mod OutcomeLaws
 pub mod DemandTwo
 pub mod DemandThree
+pub mod RowsLaws
+pub mod Rows

@@ -1,12 +1,12 @@
 -- What the decision finds for an accepted request whose subject has a meaning.
-use mathlib.Core.Path.{_≡_, refl, sym, subst}
+use mathlib.Core.Path.{_≡_, refl, subst}
 use mathlib.Core.Logic.{_⊎_, inl, inr}
 use mathlib.Core.List.{List}
 use mathlib.Core.Option.{some}
 use Prim.Native.Nat.{ℕ, _<_, _≤_}
 use native.Mathlib.Omega.{arith}
 use lib.ListN.{length}
-use Rattle.rules.specs.Tables.{Asked, Request, Table}
+use Rattle.rules.specs.Tables.{Request, Table}
 use Rattle.rules.specs.Ranges.{Good}
 use Rattle.rules.specs.Names.{TargetMeans}
 use Rattle.rules.specs.Access.{Setting, setting}

@@ -6,14 +6,11 @@ use mathlib.Core.Logic.{_↔_}
 use mathlib.Core.Option.{some}
 use Prim.Native.Nat.{ℕ, _≤_}
 use lib.ListN.{length, take}
-use Rattle.rules.specs.Tables.{Asked, AccessRecord, Delegation, Request, Table}
-use Rattle.rules.specs.Names.{IsSelf, TargetMeans}
-use Rattle.rules.specs.Access.{setting, Granted}
-use Rattle.rules.specs.KeyTables.{KeyRequest}
+use Rattle.rules.specs.Tables.{AccessRecord, Delegation}
+use Rattle.rules.specs.Names.{IsSelf}
+use Rattle.rules.specs.Access.{Granted}
 use Rattle.rules.specs.Meaningless.{WithoutIdle}
-use Rattle.rules.specs.Verdicts.{Grants}
 use Rattle.rules.specs.declared.Key.{Key}
-use Rattle.rules.specs.declared.Space.{Space}
 use Rattle.rules.specs.declared.Depth.{Depth}
 use Rattle.wire.specs.Number.{Bytes}
 use Rattle.records.specs.Parsed.{got}
