@@ -6,8 +6,10 @@ use mathlib.Core.Option.{some}
 use Prim.Native.Nat.{ℕ, _≤_}
 use native.Mathlib.Omega.{arith}
 use lib.ListN.{length, take}
-use Rattle.rules.specs.Tables.{Request, Table}
-use Rattle.rules.specs.Names.{Means, TargetMeans}
+use Rattle.rules.specs.Lists.{At}
+use Rattle.rules.specs.Ranges.{Good, GoodKey, GoodTarget, GoodRequest, GoodKeyRequest}
+use Rattle.rules.specs.Tables.{Target, toKey, toName, Request, Table}
+use Rattle.rules.specs.Names.{Means, TargetMeans, IsSelf}
 use Rattle.rules.specs.Access.{Setting, Granted, setting}
 use Rattle.rules.specs.KeyTables.{KeyRequest, keySetting}
 use Rattle.rules.specs.Translation.{Translates}
@@ -20,11 +22,13 @@ use Rattle.rules.proofs.NamesLaws.{target-one}
 use Rattle.rules.proofs.Theorems.Translation.{translation-changes-nothing, idle-records-give-nothing}
 use Rattle.wire.specs.Number.{Bytes}
 use Rattle.records.specs.Parsed.{got}
-use Rattle.records.specs.Requests.{readRequest, readKeyRequest}
+use Rattle.records.specs.Requests.{readRequest, readKeyRequest, keyRequestBytes}
+use Rattle.records.proofs.RequestsForm.{request-form, key-request-reads}
 use Rattle.records.proofs.ParsedLaws.{got-or-bad, some-or-none, got-one, some-one}
 use Rattle.table.specs.ReadTable.{Laid as LaidTable, tableOf, readTable}
 use Rattle.table.specs.ReadKeyTable.{KeyLaid, keyTableOf, readKeyTable, mostKeyTable}
 use Rattle.table.proofs.Theorems.{table-form}
+use Rattle.table.proofs.FindingLaws.{at-below}
 use Rattle.decision.specs.declared.Decided.{Decided}
 use Rattle.decision.specs.declared.Decided.the-variants as decided
 use Rattle.keytable.specs.Deciding.{KeyDecides, fault, request, denied, granted}
@@ -32,6 +36,7 @@ use Rattle.keytable.specs.declared.KeyAnswer.{KeyAnswer}
 use Rattle.keytable.specs.declared.KeyAnswer.the-variants as byKeys
 use Rattle.translation.specs.Promise.{Answers, badTable, room, done}
 use Rattle.translation.specs.declared.Translated.{Translated}
+use Rattle.translation.proofs.GoodLaws.{means-good}
 use Rattle.translation.proofs.Theorems.{Loads, translation-loads}
 use Rattle.demands.specs.DemandTwo.{Accepted}
 use Rattle.demands.specs.DemandThree.{Succeeds, AsksTheSame, SameAnswer, TakenOut, SameDecision, DemandThree}
@@ -128,12 +133,42 @@ module _ (table table′ asked : List ℕ) (b : Bytes table) (x : Accepted table
       (subst (λ (k : Key). Outcome (setting less (x .asked .asked)) k c) (sym same-key)
       (subst (λ (r : Request). Outcome (setting less (r .asked)) (y .key) c) (sym same-request) (subst (λ (t : Table). Outcome (setting t (y .asked .asked)) (y .key) c) (out .is) u)))
 
+-- ---- the same question, with keys
+target-good : (t : Table) → Good t → (g : Target) → GoodTarget (length (t .names .spaces)) g → (k : Key) → TargetMeans (t .names) g k → GoodKey k
+target-good t good (toKey x) h k e = subst GoodKey e h
+target-good t good (toName S p) h k m = means-good (t .names) (good .names) m
+
+module _ (table question : List ℕ) (b : Bytes table) (c : Bytes question) (x : Accepted table question) where
+  good-here : Good (tableOf (x .laid))
+  good-here = table-form table (x .laid) (x .end) b (x .table′) .1
+
+  good-question : GoodRequest (length (tableOf (x .laid) .names .spaces)) (x .asked)
+  good-question = request-form (length (tableOf (x .laid) .names .spaces)) (omega (arith, good-here .fewSpaces)) question (x .asked) c (x .request′) .1
+
+  own : (k : Key) × At (tableOf (x .laid) .names .spaces) (x .asked .asked .owner .0) k
+  own = at-below (tableOf (x .laid) .names .spaces) (x .asked .asked .owner .0) (good-question .owner)
+
+  abbrev ask : KeyRequest
+  ask = record { subject = x .key; asked = record { owner = own .0; object = x .asked .asked .object; right = x .asked .asked .right } }
+
+  good-ask : GoodKeyRequest ask
+  good-ask = record {
+    subject = target-good (tableOf (x .laid)) good-here (x .asked .subject) (good-question .subject) (x .key) (x .named);
+    owner = good-here .names .keys (x .asked .asked .owner) (own .0) (record { at = own .1 });
+    object = good-question .object;
+    right = good-question .right;
+  }
+
+  asked : (keyRequest : List ℕ) × AsksTheSame table question keyRequest x
+  asked = (keyRequestBytes ask, record { owner = own .0; own = record { at = own .1 }; read = key-request-reads ask good-ask })
+
 -- DEMAND 3 IS MET.
 pub demand-three : DemandThree
 demand-three = record {
   succeeds = λ table before after a l end b e r h. succeeds table before b e r h;
-  same = λ table before after asked keyRequest sheet₀ derivation₀ sheet derivation n a c b t x q room h k.
-      same-bytes table asked keyRequest b x q n after (translation-loads table before b n after t) a c (outcome table asked sheet₀ derivation₀ b x h room) k;
+  asked = asked;
+  same = λ table before after question keyRequest sheet₀ derivation₀ sheet derivation n a c b t x q room h k.
+      same-bytes table question keyRequest b x q n after (translation-loads table before b n after t) a c (outcome table question sheet₀ derivation₀ b x h room) k;
   idle = λ table table′ asked sheet₀ derivation₀ sheet derivation sheet′ derivation′ a c b b′ x y out h room h′ room′.
       same-less table table′ asked b x y out a c (outcome table asked sheet₀ derivation₀ b x h room) (outcome table′ asked sheet₀ derivation₀ b′ y h′ room′);
 }

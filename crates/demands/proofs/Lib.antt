@@ -6,3 +6,4 @@ pub mod DemandTwo
 pub mod DemandThree
 pub mod RowsLaws
 pub mod Rows
+pub mod Worthless

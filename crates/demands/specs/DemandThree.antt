@@ -60,6 +60,9 @@ pub record SameDecision (a b : Decided) : Type 0 where
 pub record DemandThree : Type 0 where
   pub succeeds : (table before after : List ℕ) (a : Translated) (l : LaidTable) (end : ℕ) → Bytes table → readTable table ≡ got l end → mostKeyTable ≤ length before
       → Answers table before a after → Succeeds a after
+  -- The same question can be asked with keys,
+  pub asked : (table request : List ℕ) → Bytes table → Bytes request → (x : Accepted table request) → (keyRequest : List ℕ) × AsksTheSame table request keyRequest x
+  -- and gets the same answer.
   pub same : (table before after request keyRequest sheet₀ derivation₀ sheet derivation : List ℕ) (n : ℕ) (a : Decided) (b : KeyAnswer) → Bytes table
       → Answers table before (translated.Done n) after → (x : Accepted table request) → AsksTheSame table request keyRequest x → Room sheet₀ derivation₀ a
       → Decides table request sheet₀ derivation₀ a sheet derivation → KeyDecides (take n after) keyRequest b → SameAnswer a b

@@ -19,7 +19,7 @@ use Rattle.translation.specs.Becoming.{keyTableAt}
 use Rattle.translation.proofs.OrderLaws.{order-short}
 
 -- What a name means is a key that a field may hold.
-means-good : (t : NameTable) → GoodNames t → {S : Space} {p : Path} {k : Key} → Means t S p k → GoodKey k
+pub means-good : (t : NameTable) → GoodNames t → {S : Space} {p : Path} {k : Key} → Means t S p k → GoodKey k
 means-good t good (self {S = S} {k = k} s) = good .keys S k s
 means-good t good (boundToKey {i = i} m s o) = good .bindings i _ (o .at) .target
 means-good t good (boundToName m s o m′) = means-good t good m′
