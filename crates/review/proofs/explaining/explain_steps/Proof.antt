@@ -1,0 +1,75 @@
+-- The loop ends: the numbers that are left get fewer.
+use Prim.Native.Nat.{_-_}
+use native.Mathlib.Omega.{arith}
+use borrow.Author.Needs.{needs}
+use Rattle.review.proofs.explaining.explain_steps.Statement.{statement}
+use Rattle.review.proofs.explaining.explain_steps.Tie as tie
+
+abbrev Inv-loop : tie.InvT-loop
+Inv-loop table keys names bindings accesses delegations sheet derivation from count depth₀ at₀ k₀ depth at k = Unit {0}
+
+abbrev μ-loop : tie.MeasureT-loop
+μ-loop table keys names bindings accesses delegations sheet derivation from count depth₀ at₀ k₀ depth at k = count - k
+
+loop-holds : tie.Need-loop-holds Inv-loop μ-loop
+loop-holds c = search needs
+
+read-field-requires : tie.Need-read-field-requires Inv-loop μ-loop
+read-field-requires c κs = search needs
+
+enum-known-number : tie.Need-enum-known-number Inv-loop μ-loop
+enum-known-number c = search needs
+
+enum-told : tie.Need-enum-told Inv-loop μ-loop
+enum-told c = search needs
+
+returns : tie.Need-returns Inv-loop μ-loop
+returns c = search needs
+
+cast-j : tie.Need-cast-j Inv-loop μ-loop
+cast-j c = search needs
+
+explain-step-requires : tie.Need-explain-step-requires Inv-loop μ-loop
+explain-step-requires c κs = search needs
+
+enum-known-step : tie.Need-enum-known-step Inv-loop μ-loop
+enum-known-step c = search needs
+
+enum-told-2 : tie.Need-enum-told-2 Inv-loop μ-loop
+enum-told-2 c = search needs
+
+returns-2 : tie.Need-returns-2 Inv-loop μ-loop
+returns-2 c = search needs
+
+add-k : tie.Need-add-k Inv-loop μ-loop
+add-k c = search needs
+
+loop-less : tie.Need-loop-less Inv-loop μ-loop
+loop-less c = search needs
+
+loop-again : tie.Need-loop-again Inv-loop μ-loop
+loop-again c = search needs
+
+returns-3 : tie.Need-returns-3 Inv-loop μ-loop
+returns-3 c = search needs
+
+pub explain-steps-spec : {M : Type 1} → statement M
+explain-steps-spec =
+    tie.close
+    (tie.spec
+    Inv-loop
+    μ-loop
+    loop-holds
+    read-field-requires
+    enum-known-number
+    enum-told
+    returns
+    cast-j
+    explain-step-requires
+    enum-known-step
+    enum-told-2
+    returns-2
+    add-k
+    loop-less
+    loop-again
+    returns-3)

@@ -1,0 +1,123 @@
+-- The record's space and paths fit the table.
+use Rattle.matching.proofs.MatchingLaws.{few-spaces}
+use Rattle.review.proofs.FoundLaws.{delegation-known}
+use borrow.Author.Needs.{needs}
+use Rattle.review.proofs.showing.show_delegation.Statement.{statement}
+use Rattle.review.proofs.showing.show_delegation.Tie as tie
+
+delegation-at-requires : tie.Need-delegation-at-requires
+delegation-at-requires c κs = search needs
+
+enum-known-found : tie.Need-enum-known-found
+enum-known-found c = search needs
+
+enum-told : tie.Need-enum-told
+enum-told c = search needs
+
+returns : tie.Need-returns
+returns c = search needs
+
+follow-name-requires : tie.Need-follow-name-requires
+follow-name-requires c κs = (few-spaces _ _ _ _ _ (c .before .before .before .before .before .before .before .before .before .before .before .before .before .before .before .before .pre .0 .held), c .before .before .before .before .before .before .before .before .before .before .before .before .before .before .before .before .pre .0 .room, delegation-known (c .before .before .before .before .before .before .before .before .delegation-at .ensures) (c .before .before .before .before .before .before .found .given .1) .0, delegation-known (c .before .before .before .before .before .before .before .before .delegation-at .ensures) (c .before .before .before .before .before .before .found .given .1) .1)
+
+key-of-requires : tie.Need-key-of-requires
+key-of-requires c κs = search needs
+
+follow-name-requires-2 : tie.Need-follow-name-requires-2
+follow-name-requires-2 c κs = (few-spaces _ _ _ _ _ (c .before .before .before .before .before .before .before .before .before .before .before .before .before .before .before .before .before .before .pre .0 .held), c .before .before .before .before .before .before .before .before .before .before .before .before .before .before .before .before .before .before .pre .0 .room, delegation-known (c .before .before .before .before .before .before .before .before .before .before .delegation-at .ensures) (c .before .before .before .before .before .before .before .before .found .given .1) .0, delegation-known (c .before .before .before .before .before .before .before .before .before .before .delegation-at .ensures) (c .before .before .before .before .before .before .before .before .found .given .1) .2)
+
+key-of-requires-2 : tie.Need-key-of-requires-2
+key-of-requires-2 c κs = search needs
+
+column-requires : tie.Need-column-requires
+column-requires c κs = search needs
+
+column-requires-2 : tie.Need-column-requires-2
+column-requires-2 c κs = search needs
+
+cast-column : tie.Need-cast-column
+cast-column c = search needs
+
+column-requires-3 : tie.Need-column-requires-3
+column-requires-3 c κs = search needs
+
+cast-column-2 : tie.Need-cast-column-2
+cast-column-2 c = search needs
+
+column-requires-4 : tie.Need-column-requires-4
+column-requires-4 c κs = search needs
+
+number-requires : tie.Need-number-requires
+number-requires c κs = search needs
+
+cast-column-3 : tie.Need-cast-column-3
+cast-column-3 c = search needs
+
+column-requires-5 : tie.Need-column-requires-5
+column-requires-5 c κs = search needs
+
+key-column-requires : tie.Need-key-column-requires
+key-column-requires c κs = search needs
+
+key-column-requires-2 : tie.Need-key-column-requires-2
+key-column-requires-2 c κs = search needs
+
+slice-aggregate-say : tie.Need-slice-aggregate-say
+slice-aggregate-say c = search needs
+
+say-requires : tie.Need-say-requires
+say-requires c κs = search needs
+
+path-column-requires : tie.Need-path-column-requires
+path-column-requires c κs = search needs
+
+slice-aggregate-say-2 : tie.Need-slice-aggregate-say-2
+slice-aggregate-say-2 c = search needs
+
+say-requires-2 : tie.Need-say-requires-2
+say-requires-2 c κs = search needs
+
+say-path-requires : tie.Need-say-path-requires
+say-path-requires c κs = search needs
+
+slice-aggregate-say-3 : tie.Need-slice-aggregate-say-3
+slice-aggregate-say-3 c = search needs
+
+say-requires-3 : tie.Need-say-requires-3
+say-requires-3 c κs = search needs
+
+returns-2 : tie.Need-returns-2
+returns-2 c = search needs
+
+pub show-delegation-spec : {M : Type 1} → statement M
+show-delegation-spec =
+    tie.close
+    (tie.spec
+    delegation-at-requires
+    enum-known-found
+    enum-told
+    returns
+    follow-name-requires
+    key-of-requires
+    follow-name-requires-2
+    key-of-requires-2
+    column-requires
+    column-requires-2
+    cast-column
+    column-requires-3
+    cast-column-2
+    column-requires-4
+    number-requires
+    cast-column-3
+    column-requires-5
+    key-column-requires
+    key-column-requires-2
+    slice-aggregate-say
+    say-requires
+    path-column-requires
+    slice-aggregate-say-2
+    say-requires-2
+    say-path-requires
+    slice-aggregate-say-3
+    say-requires-3
+    returns-2)
