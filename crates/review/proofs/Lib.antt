@@ -2,3 +2,4 @@
 pub mod FoundLaws
 pub mod LengthsLaws
 pub mod PartsLaws
+pub mod WordsLaws

@@ -3,10 +3,10 @@ use mathlib.Core.Path.{_≡_, subst}
 use mathlib.Core.List.{List}
 use Prim.Native.Nat.{ℕ}
 use Rattle.io.specs.Counts.{Counts}
-use Rattle.review.specs.Asking.{PutFits}
+use Rattle.review.specs.Writing.{PutFits}
 use Rattle.review.specs.Files.{Fits}
-use Rattle.review.specs.declared.asking.Put.{Put}
-use Rattle.review.specs.declared.asking.Put.the-variants.{Next}
+use Rattle.review.specs.declared.writing.Put.{Put}
+use Rattle.review.specs.declared.writing.Put.the-variants.{Next}
 use Rattle.review.specs.declared.files.Part.{Part}
 use Rattle.review.specs.declared.files.Part.the-variants.{Whole}
 

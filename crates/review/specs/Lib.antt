@@ -1,6 +1,8 @@
 -- What the reviewer's tool says.
 pub mod Answers
-pub mod Asking
 pub mod Files
 pub mod Found
 pub mod Opened
+pub mod Steps
+pub mod Words
+pub mod Writing

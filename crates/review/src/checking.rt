@@ -5,7 +5,6 @@ use crate::answers::WRONG_REQUEST;
 use crate::answers::say_answer;
 use crate::answers::say_fault;
 use crate::answers::say_refusal;
-use crate::asking::Form;
 use crate::asking::ask;
 use crate::files::Part;
 use crate::files::read_file;
@@ -13,6 +12,7 @@ use crate::opening::Task;
 use crate::opening::open;
 use crate::printing::say;
 use crate::printing::say_with;
+use crate::writing::Form;
 use checker::Checked;
 use checker::check;
 

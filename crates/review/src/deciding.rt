@@ -8,7 +8,6 @@ use crate::answers::WRONG_REQUEST;
 use crate::answers::say_answer;
 use crate::answers::say_fault;
 use crate::answers::say_refusal;
-use crate::asking::Form;
 use crate::asking::ask;
 use crate::files::Part;
 use crate::files::read_file;
@@ -20,6 +19,7 @@ use crate::printing::say_bytes;
 use crate::printing::say_count;
 use crate::printing::say_with;
 use crate::words::is_word;
+use crate::writing::Form;
 use decision::Decided;
 use decision::decide;
 use rules::Depth;
@@ -47,6 +47,12 @@ fn grant(table: &[u8], request: &[u8], depth: Depth, derivation: &[u8]) {
     open(table, request, derivation, Task::Explain);
 }
 
+// Tells a refusal of a request that was read, with what the subject's name goes through.
+fn refuse(table: &[u8], request: &[u8], number: u32) {
+    say_refusal(number);
+    open(table, request, b"", Task::Explain);
+}
+
 // Answers a request by a table.
 fn answer(table: &[u8], request: &[u8]) {
     let mut sheet = [0u32; 256];
@@ -56,9 +62,9 @@ fn answer(table: &[u8], request: &[u8]) {
         Decided::BadTable(fault) => say_fault(fault),
         Decided::BadRequest => say_refusal(WRONG_REQUEST),
         Decided::Room => say_refusal(ROOM),
-        Decided::Unnamed => say_refusal(UNNAMED),
-        Decided::Denied => say_refusal(DENIED),
-        Decided::Overrun => say_refusal(OVERRUN),
+        Decided::Unnamed => refuse(table, request, UNNAMED),
+        Decided::Denied => refuse(table, request, DENIED),
+        Decided::Overrun => refuse(table, request, OVERRUN),
     }
 }
 

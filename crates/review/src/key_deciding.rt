@@ -5,12 +5,12 @@ use crate::answers::WRONG_REQUEST;
 use crate::answers::say_answer;
 use crate::answers::say_fault;
 use crate::answers::say_refusal;
-use crate::asking::Form;
 use crate::asking::ask;
 use crate::files::Part;
 use crate::files::read_file;
 use crate::printing::say;
 use crate::printing::say_with;
+use crate::writing::Form;
 use keytable::KeyAnswer;
 use keytable::decide_by_keys;
 

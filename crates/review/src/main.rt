@@ -11,6 +11,7 @@ use crate::words::is_word;
 
 mod answers;
 mod asking;
+mod chains;
 mod checking;
 mod columns;
 mod deciding;
@@ -25,6 +26,7 @@ mod recounting;
 mod showing;
 mod translating;
 mod words;
+mod writing;
 
 // review show TABLE: shows all records.
 fn show() {

@@ -1,4 +1,6 @@
 // The words that the program was started with, by their number.
+ghost use mathlib.Core.Path.{_≡_};
+ghost use Rattle.review.specs.Words.{numberSaid, alike};
 
 // What a word says where a number is to stand.
 pub enum Word {
@@ -9,7 +11,9 @@ pub enum Word {
 const MOST: u64 = 4294967295;
 
 // Whether both are the same bytes.
-fn same(first: &[u8], second: &[u8]) -> bool {
+fn same(first: &[u8], second: &[u8]) -> bool
+    ensures { λ r. ⌜ r ≡ alike (now (first .entry)) (now (second .entry)) ⌝ }
+{
     if first.len() != second.len() {
         return false;
     }
@@ -34,12 +38,16 @@ pub fn is_word(i: usize, text: &[u8]) -> bool {
 }
 
 // The byte, as a wider number.
-fn wide(byte: u8) -> u64 {
+fn wide(byte: u8) -> u64
+    ensures { λ r. ⌜ r ≡ byte ⌝ }
+{
     byte as u64
 }
 
 // The number that decimal digits say, unless it is above 4,294,967,295.
-fn read_digits(digits: &[u8]) -> Word {
+fn read_digits(digits: &[u8]) -> Word
+    ensures { λ r. ⌜ r ≡ numberSaid (now (digits .entry)) ⌝ }
+{
     if digits.len() == 0 {
         return Word::Not;
     }

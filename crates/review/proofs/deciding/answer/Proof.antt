@@ -49,20 +49,20 @@ say-refusal-requires-2 c κs = search needs
 enum-told-3 : tie.Need-enum-told-3
 enum-told-3 c = search needs
 
-say-refusal-requires-3 : tie.Need-say-refusal-requires-3
-say-refusal-requires-3 c κs = search needs
+refuse-requires : tie.Need-refuse-requires
+refuse-requires c κs = search needs
 
 enum-told-4 : tie.Need-enum-told-4
 enum-told-4 c = search needs
 
-say-refusal-requires-4 : tie.Need-say-refusal-requires-4
-say-refusal-requires-4 c κs = search needs
+refuse-requires-2 : tie.Need-refuse-requires-2
+refuse-requires-2 c κs = search needs
 
 enum-told-5 : tie.Need-enum-told-5
 enum-told-5 c = search needs
 
-say-refusal-requires-5 : tie.Need-say-refusal-requires-5
-say-refusal-requires-5 c κs = search needs
+refuse-requires-3 : tie.Need-refuse-requires-3
+refuse-requires-3 c κs = search needs
 
 returns : tie.Need-returns
 returns c = search needs
@@ -103,11 +103,11 @@ answer-spec =
     enum-told-2
     say-refusal-requires-2
     enum-told-3
-    say-refusal-requires-3
+    refuse-requires
     enum-told-4
-    say-refusal-requires-4
+    refuse-requires-2
     enum-told-5
-    say-refusal-requires-5
+    refuse-requires-3
     returns
     returns-2
     returns-3

@@ -2,8 +2,8 @@
 use Prim.Native.Nat.{_-_}
 use native.Mathlib.Omega.{arith}
 use borrow.Author.Needs.{needs}
-use Rattle.review.proofs.explaining.explain_steps.Statement.{statement}
-use Rattle.review.proofs.explaining.explain_steps.Tie as tie
+use Rattle.review.proofs.chains.explain_steps.Statement.{statement}
+use Rattle.review.proofs.chains.explain_steps.Tie as tie
 
 abbrev Inv-loop : tie.InvT-loop
 Inv-loop table keys names bindings accesses delegations sheet derivation from count depth₀ at₀ k₀ depth at k = Unit {0}

@@ -4,8 +4,8 @@ use Prim.Native.Nat.{_-_}
 use native.Mathlib.Omega.{arith}
 use lib.ListN.{length}
 use borrow.Author.Needs.{needs}
-use Rattle.review.proofs.asking.put_words.Statement.{statement}
-use Rattle.review.proofs.asking.put_words.Tie as tie
+use Rattle.review.proofs.writing.put_words.Statement.{statement}
+use Rattle.review.proofs.writing.put_words.Tie as tie
 
 abbrev Inv-loop : tie.InvT-loop
 Inv-loop out₀ from first end at₀ i₀ out at i = length out ≡ length out₀

@@ -3,8 +3,8 @@ use native.Mathlib.Omega.{arith}
 use Rattle.io.proofs.Counting.{counts}
 use Rattle.wire.proofs.NumberLaws.{bytes-short}
 use borrow.Author.Needs.{needs}
-use Rattle.review.proofs.asking.put_number.Statement.{statement}
-use Rattle.review.proofs.asking.put_number.Tie as tie
+use Rattle.review.proofs.writing.put_number.Statement.{statement}
+use Rattle.review.proofs.writing.put_number.Tie as tie
 
 returns : tie.Need-returns
 returns c = search needs

@@ -2,8 +2,8 @@
 use mathlib.Core.List.{List}
 use Prim.Native.Nat.{ℕ}
 use Rattle.io.specs.Counts.{Counts}
-use Rattle.review.specs.declared.asking.Put.{Put}
-use Rattle.review.specs.declared.asking.Put.the-variants.{Next, Not}
+use Rattle.review.specs.declared.writing.Put.{Put}
+use Rattle.review.specs.declared.writing.Put.the-variants.{Next, Not}
 
 -- It stands within the buffer.
 abbrev pub PutFits : Put → List ℕ → Type 0
