@@ -7,5 +7,6 @@ pub mod faults;
 pub mod fields;
 pub mod keys;
 pub mod paths;
+pub mod reader;
 pub mod requests;
 pub mod targets;

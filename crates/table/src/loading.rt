@@ -30,7 +30,7 @@ use records::fields::field_fault;
 use records::fields::key_fault;
 use records::fields::read_field;
 use records::fields::read_key;
-use records::fields::read_number;
+use records::reader::number_at;
 
 pub const MOST_SPACES: u32 = 64;
 
@@ -62,7 +62,7 @@ pub enum After {
 pub fn read_version(table: &[u8], wanted: u32) -> Field
     ensures { λ r. ⌜ r ≡ fieldRead (version wanted (now (table .entry)) 0) ⌝ }
 {
-    let number = read_number(table, 0);
+    let number = number_at(table, 0);
     let Field::Value(found, at) = number else {
         return Field::Fault(field_fault(number));
     };
