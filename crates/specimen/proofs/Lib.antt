@@ -1,0 +1,3 @@
+-- The digits, and what is written to a buffer.
+mod DigitsLaws
+mod WrittenLaws

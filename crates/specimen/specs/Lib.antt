@@ -1,0 +1,2 @@
+-- How a byte is written.
+pub mod Digits
