@@ -72,6 +72,17 @@ pub fn write_answer(answer: Answer) {
     write_number(answer.depth);
 }
 
+// Writes an answer of the translation: its number, with the length of a key table.
+pub fn write_translated(answer: Answer) {
+    if answer.number != DONE {
+        write_refusal(answer);
+        return;
+    }
+    write_words(b"0, ");
+    write_number(answer.length);
+    write_words(b" bytes");
+}
+
 // Writes the line of a row: its words, and what is answered.
 pub fn write_row(words: &[u8], answer: Answer) {
     write_words(words);

@@ -1,6 +1,7 @@
-// specimen > LINES: what the kernel answers to the rows of the specimen table.
+// specimen > LINES: what the kernel answers to the rows of the specimen table: P1 to P10, then those that are only run.
 use crate::tables::specimen_table;
 
+mod limits;
 mod lines;
 mod rows;
 mod tables;
@@ -10,4 +11,5 @@ fn main() {
     let table = specimen_table();
     rows::answer(&table);
     translations::answer(&table);
+    limits::answer();
 }
