@@ -1,0 +1,126 @@
+//! The kernel and the reference, timed side by side: prints the table that
+//! docs/PERFORMANCE.md keeps.
+
+mod kernel;
+mod lent;
+mod rows;
+mod same;
+mod show;
+mod timing;
+
+use std::hint::black_box;
+
+use rows::Row;
+use same::Made;
+use timing::{race, Times};
+
+/// What each function takes over one row.
+pub struct Measured {
+    pub decision: Times,
+    pub checker: Times,
+    pub translation: Times,
+    pub key_decision: Times,
+    pub reading: Times,
+}
+
+fn main() {
+    let rows = rows::all();
+    let asked: Vec<Made> = rows.iter().map(same::ask).collect();
+    show::head();
+    for (row, made) in rows.iter().zip(&asked) {
+        show::line(row, &measure(row, made));
+    }
+}
+
+fn measure(row: &Row, made: &Made) -> Measured {
+    Measured {
+        decision: decision(row),
+        checker: checker(row, made),
+        translation: translation(row),
+        key_decision: key_decision(row, made),
+        reading: reading(row),
+    }
+}
+
+fn decision(row: &Row) -> Times {
+    let (table, request) = (&row.table, &row.request);
+    let (mut sheet, mut derivation) = (lent::sheet(), lent::derivation());
+    let (mut other_sheet, mut other_derivation) = (lent::sheet(), lent::derivation());
+    race(
+        || {
+            let (sheet, derivation) = black_box((&mut sheet, &mut derivation));
+            black_box(kernel::decide(
+                black_box(table),
+                black_box(request),
+                sheet,
+                derivation,
+            ));
+        },
+        || {
+            let (sheet, derivation) = black_box((&mut other_sheet, &mut other_derivation));
+            black_box(reference::decide(
+                black_box(table),
+                black_box(request),
+                sheet,
+                derivation,
+            ));
+        },
+    )
+}
+
+fn checker(row: &Row, made: &Made) -> Times {
+    let (table, request, derivation) = (&row.table, &row.request, &made.derivation);
+    race(
+        || {
+            let (table, request, derivation) = black_box((table, request, derivation));
+            black_box(kernel::check(table, request, derivation));
+        },
+        || {
+            let (table, request, derivation) = black_box((table, request, derivation));
+            black_box(reference::check(table, request, derivation));
+        },
+    )
+}
+
+fn translation(row: &Row) -> Times {
+    let (mut ours, mut theirs) = (lent::key_table(), lent::key_table());
+    race(
+        || {
+            black_box(kernel::translate(
+                black_box(&row.table),
+                black_box(&mut ours),
+            ));
+        },
+        || {
+            black_box(reference::translate(
+                black_box(&row.table),
+                black_box(&mut theirs),
+            ));
+        },
+    )
+}
+
+fn key_decision(row: &Row, made: &Made) -> Times {
+    let (key_table, key_request) = (&made.key_table, &row.key_request);
+    race(
+        || {
+            let (key_table, key_request) = black_box((key_table, key_request));
+            black_box(kernel::decide_by_keys(key_table, key_request));
+        },
+        || {
+            let (key_table, key_request) = black_box((key_table, key_request));
+            black_box(reference::decide_by_keys(key_table, key_request));
+        },
+    )
+}
+
+fn reading(row: &Row) -> Times {
+    race(
+        || {
+            black_box(kernel::read(black_box(&row.table)));
+        },
+        || {
+            black_box(reference::read_table(black_box(&row.table))).ok();
+        },
+    )
+}
