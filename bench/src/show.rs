@@ -7,14 +7,18 @@ use crate::Measured;
 /// The kernel is meant to be this many times as fast as the reference.
 const AIM: f64 = 2.0;
 
-pub fn head() {
-    println!("kernel / reference, in microseconds (reading: in megabytes a second); ×: how many times faster the kernel is");
+/// Prints the table: a line for each row.
+pub fn table(rows: &[Row], measured: &[Measured]) {
+    println!("Kernel / reference, in microseconds; reading: in megabytes a second. ×: how many times faster the kernel is.");
     println!();
     println!("| table | bytes | decision | checker | translation | key decision | reading |");
     println!("|---|---|---|---|---|---|---|");
+    for (row, measured) in rows.iter().zip(measured) {
+        line(row, measured);
+    }
 }
 
-pub fn line(row: &Row, measured: &Measured) {
+fn line(row: &Row, measured: &Measured) {
     println!(
         "| {} | {} | {} | {} | {} | {} | {} |",
         row.name,

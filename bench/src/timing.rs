@@ -6,7 +6,7 @@ use std::time::{Duration, Instant};
 const BATCH: Duration = Duration::from_millis(2);
 /// So many batches of each side; the fastest one counts, since whatever else
 /// the machine does makes others slower and none faster.
-const BATCHES: usize = 50;
+const BATCHES: usize = 20;
 
 /// What one call takes, in nanoseconds.
 #[derive(Clone, Copy)]
@@ -19,6 +19,14 @@ impl Times {
     /// How many times faster the kernel is.
     pub fn ratio(self) -> f64 {
         self.reference / self.kernel
+    }
+
+    /// The better time of each side.
+    pub fn best(self, other: Times) -> Times {
+        Times {
+            kernel: self.kernel.min(other.kernel),
+            reference: self.reference.min(other.reference),
+        }
     }
 }
 
