@@ -10,11 +10,6 @@ use Rattle.wire.specs.Number.{joined, groupsAt}
 use Rattle.wire.proofs.PartsLaws.{rest-of}
 use Rattle.wire.proofs.GroupsLaws.{first-last, first-on}
 
-pub groups-none : (left : ℕ) (s : List ℕ) → left ≡ 0 → Wrong ≡ groupsAt left s
-unfolding groupsAt
-groups-none zero s h = refl
-groups-none (suc left) s h = absurd (omega arith)
-
 pub groups-cut : (left : ℕ) (s : List ℕ) → (left ≡ 0 → ⊥) → length s ≡ 0 → Cut ≡ groupsAt left s
 unfolding groupsAt
 groups-cut zero s p h = absurd (p refl)
@@ -33,3 +28,9 @@ groups-on (suc left) [] b m r p q e h u w = absurd (q refl)
 groups-on (suc left) (a ∷ s) b m r p q e h u w =
     let i : suc left - 1 ≡ left = omega arith in
     rw (first-on left a s (omega arith), w, u, e, rest-of (a ∷ s) 1, i)
+
+-- A set top bit in the last byte that is left.
+pub groups-over : (s : List ℕ) (b : ℕ) → (length s ≡ 0 → ⊥) → b ≡ getD s 0 0 → 128 ≤ b → Wrong ≡ groupsAt 1 s
+unfolding groupsAt joined
+groups-over [] b q e h = absurd (q refl)
+groups-over (a ∷ s) b q e h = sym (first-on 0 a s (omega (arith, e, h)))

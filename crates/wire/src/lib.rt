@@ -15,8 +15,6 @@ pub enum Number {
     Wrong,
 }
 
-const MOST_BYTES: usize = 5;
-
 // No number goes on with this much after its first seven bits: it would be above 4,294,967,295.
 const TOO_HIGH: u32 = 33554432;
 
@@ -47,14 +45,12 @@ fn join(low: u32, after: Number) -> Number
     }
 }
 
-// The number whose groups `rest` begins with, where at most `left` bytes are left to it.
-fn read_groups(rest: &[u8], left: usize) -> Number
-    requires { ⌜ left ≤ mostBytes ⌝ }
-    ensures { λ r. ⌜ r ≡ groupsAt left (now (rest .entry)) ⌝ }
+// A number has at most five bytes, and so there is a function for each that is left to it: nothing is kept in memory on the way, as it is where one calls itself.
+
+// The number whose groups `rest` begins with, where one byte is left to it.
+fn read_fifth(rest: &[u8]) -> Number
+    ensures { λ r. ⌜ r ≡ groupsAt 1 (now (rest .entry)) ⌝ }
 {
-    if left == 0 {
-        return Number::Wrong;
-    }
     if rest.len() == 0 {
         return Number::Cut;
     }
@@ -62,11 +58,55 @@ fn read_groups(rest: &[u8], left: usize) -> Number
     if first < 128 {
         return Number::Value(first, 1);
     }
-    let after = read_groups(&rest[1..], left - 1);
+    Number::Wrong
+}
+
+// Where two bytes are left to it.
+fn read_fourth(rest: &[u8]) -> Number
+    ensures { λ r. ⌜ r ≡ groupsAt 2 (now (rest .entry)) ⌝ }
+{
+    if rest.len() == 0 {
+        return Number::Cut;
+    }
+    let first = wide(rest[0]);
+    if first < 128 {
+        return Number::Value(first, 1);
+    }
+    let after = read_fifth(&rest[1..]);
     join(first - 128, after)
 }
 
-// The number that `rest` begins with; one of a single byte, as most are, is read at once.
+// Where three bytes are left to it.
+fn read_third(rest: &[u8]) -> Number
+    ensures { λ r. ⌜ r ≡ groupsAt 3 (now (rest .entry)) ⌝ }
+{
+    if rest.len() == 0 {
+        return Number::Cut;
+    }
+    let first = wide(rest[0]);
+    if first < 128 {
+        return Number::Value(first, 1);
+    }
+    let after = read_fourth(&rest[1..]);
+    join(first - 128, after)
+}
+
+// Where four bytes are left to it.
+fn read_second(rest: &[u8]) -> Number
+    ensures { λ r. ⌜ r ≡ groupsAt 4 (now (rest .entry)) ⌝ }
+{
+    if rest.len() == 0 {
+        return Number::Cut;
+    }
+    let first = wide(rest[0]);
+    if first < 128 {
+        return Number::Value(first, 1);
+    }
+    let after = read_third(&rest[1..]);
+    join(first - 128, after)
+}
+
+// The number that `rest` begins with.
 pub fn read(rest: &[u8]) -> Number
     ensures { λ r. ⌜ r ≡ numberAt (now (rest .entry)) ⌝ }
 {
@@ -77,7 +117,8 @@ pub fn read(rest: &[u8]) -> Number
     if first < 128 {
         return Number::Value(first, 1);
     }
-    read_groups(rest, MOST_BYTES)
+    let after = read_second(&rest[1..]);
+    join(first - 128, after)
 }
 
 // Writes the number at the start of `out`, and returns how many bytes it takes.
