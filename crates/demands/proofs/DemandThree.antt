@@ -40,7 +40,7 @@ use Rattle.translation.proofs.GoodLaws.{means-good}
 use Rattle.translation.proofs.Theorems.{Loads, translation-loads}
 use Rattle.demands.specs.DemandTwo.{Accepted}
 use Rattle.demands.specs.DemandThree.{Succeeds, AsksTheSame, SameAnswer, TakenOut, SameDecision, DemandThree}
-use Rattle.demands.proofs.OutcomeLaws.{Outcome, yes, no, outcome}
+use Rattle.demands.proofs.OutcomeLaws.{Outcome, yes, no, outcome, unnamed-here}
 
 -- ---- what a key has is one, however it is derived
 has-alike : (Y Z : Setting) (k : Key) → ((d : ℕ) → Granted Y k d ↔ Granted Z k d) → {v : Verdict} → Has Y k v → Has Z k v
@@ -171,4 +171,5 @@ demand-three = record {
       same-bytes table question keyRequest b x q n after (translation-loads table before b n after t) a c (outcome table question sheet₀ derivation₀ b x h room) k;
   idle = λ table table′ asked sheet₀ derivation₀ sheet derivation sheet′ derivation′ a c b b′ x y out h room h′ room′.
       same-less table table′ asked b x y out a c (outcome table asked sheet₀ derivation₀ b x h room) (outcome table′ asked sheet₀ derivation₀ b′ y h′ room′);
+  unnamed = λ table question sheet₀ derivation₀ sheet derivation a l end r e f n room h. unnamed-here table question sheet₀ derivation₀ l end r e f n room h;
 }

@@ -16,10 +16,11 @@ use Rattle.rules.specs.declared.Key.{Key}
 use Rattle.rules.specs.declared.Depth.{Depth}
 use Rattle.rules.proofs.NamesLaws.{target-one}
 use Rattle.wire.specs.Number.{Bytes}
+use Rattle.records.specs.Parsed.{got}
 use Rattle.records.specs.Requests.{readRequest}
 use Rattle.records.specs.DerivationBytes.{mostDerivation}
 use Rattle.records.proofs.ParsedLaws.{got-or-bad, some-or-none, got-one, some-one}
-use Rattle.table.specs.ReadTable.{Laid as LaidTable, tableOf}
+use Rattle.table.specs.ReadTable.{Laid as LaidTable, tableOf, readTable}
 use Rattle.table.proofs.Theorems.{table-form}
 use Rattle.decision.specs.Promise.{sheetSize, DecidesGood, badRequest, room, unnamed, denied, granted, overrun, Decides, badTable, goodTable}
 use Rattle.decision.specs.declared.Decided.{Decided}
@@ -58,3 +59,24 @@ outcome table request sheet₀ derivation₀ b y (badTable e) w = absurd (got-or
 outcome table request sheet₀ derivation₀ {a} {x} {v} b y (goodTable e h) w =
     good-outcome (tableOf (y .laid)) (table-form table (y .laid) (y .end) b (y .table′) .1) request sheet₀ derivation₀ (y .asked) (y .request′) (y .key) (y .named) (w .sheet′) (w .derivation′)
     (subst (λ (z : LaidTable). DecidesGood (tableOf z) request sheet₀ derivation₀ a x v) (got-one e (y .table′)) h) (w .fits)
+
+-- ---- a subject without a meaning
+module _ (t : Table) (request sheet₀ derivation₀ : List ℕ) (r : Request) (e : readRequest (length (t .names .spaces)) request ≡ some r) (nobody : (k : Key) → TargetMeans (t .names) (r .subject) k → ⊥)
+    (p : sheetSize ≤ length sheet₀) (q : mostDerivation ≤ length derivation₀) where
+  never : {s : Request} (k : Key) → readRequest (length (t .names .spaces)) request ≡ some s → TargetMeans (t .names) (s .subject) k → ⊥
+  never k f m = nobody k (subst (λ (z : Request). TargetMeans (t .names) (z .subject) k) (some-one f e) m)
+
+  pub good-unnamed : {a : Decided} {x v : List ℕ} → DecidesGood t request sheet₀ derivation₀ a x v → a ≡ decided.Unnamed
+  good-unnamed (badRequest f) = absurd (some-or-none e f)
+  good-unnamed (room f h) = absurd (no-room sheet₀ derivation₀ p q h)
+  good-unnamed (unnamed w f) = refl
+  good-unnamed (denied {k = k} w m h) = absurd (never k (w .accepted) m)
+  good-unnamed (granted {k = k} w m h x) = absurd (never k (w .accepted) m)
+  good-unnamed (overrun {k = k} w m h x l) = absurd (never k (w .accepted) m)
+
+pub unnamed-here : (table request sheet₀ derivation₀ : List ℕ) {a : Decided} {x v : List ℕ} (l : LaidTable) (end : ℕ) (r : Request) → readTable table ≡ got l end
+    → readRequest (length (tableOf l .names .spaces)) request ≡ some r → ((k : Key) → TargetMeans (tableOf l .names) (r .subject) k → ⊥) → Room sheet₀ derivation₀ a
+    → Decides table request sheet₀ derivation₀ a x v → a ≡ decided.Unnamed
+unnamed-here table request sheet₀ derivation₀ l end r e f n w (badTable g) = absurd (got-or-bad e g)
+unnamed-here table request sheet₀ derivation₀ {a} {x} {v} l end r e f n w (goodTable g h) =
+    good-unnamed (tableOf l) request sheet₀ derivation₀ r f n (w .sheet′) (w .derivation′) (subst (λ (z : LaidTable). DecidesGood (tableOf z) request sheet₀ derivation₀ a x v) (got-one g e) h)

@@ -6,15 +6,15 @@ use mathlib.Core.Logic.{_↔_}
 use mathlib.Core.Option.{some}
 use Prim.Native.Nat.{ℕ, _≤_}
 use lib.ListN.{length, take}
-use Rattle.rules.specs.Tables.{AccessRecord, Delegation}
-use Rattle.rules.specs.Names.{IsSelf}
+use Rattle.rules.specs.Tables.{Request, AccessRecord, Delegation}
+use Rattle.rules.specs.Names.{TargetMeans, IsSelf}
 use Rattle.rules.specs.Access.{Granted}
 use Rattle.rules.specs.Meaningless.{WithoutIdle}
 use Rattle.rules.specs.declared.Key.{Key}
 use Rattle.rules.specs.declared.Depth.{Depth}
 use Rattle.wire.specs.Number.{Bytes}
 use Rattle.records.specs.Parsed.{got}
-use Rattle.records.specs.Requests.{readKeyRequest}
+use Rattle.records.specs.Requests.{readRequest, readKeyRequest}
 use Rattle.table.specs.ReadTable.{Laid as LaidTable, tableOf, readTable}
 use Rattle.table.specs.ReadKeyTable.{KeyLaid, readKeyTable, mostKeyTable}
 use Rattle.decision.specs.Promise.{Decides}
@@ -70,3 +70,7 @@ pub record DemandThree : Type 0 where
   pub idle : (table table′ request sheet₀ derivation₀ sheet derivation sheet′ derivation′ : List ℕ) (a b : Decided) → Bytes table → Bytes table′ → (x : Accepted table request) (y : Accepted table′ request)
       → TakenOut (x .laid) (y .laid) → Decides table request sheet₀ derivation₀ a sheet derivation → Room sheet₀ derivation₀ a → Decides table′ request sheet₀ derivation₀ b sheet′ derivation′
       → Room sheet₀ derivation₀ b → SameDecision a b
+  -- Nor to another such name: a subject without a meaning is told that it has none, whatever the records say.
+  pub unnamed : (table request sheet₀ derivation₀ sheet derivation : List ℕ) (a : Decided) (l : LaidTable) (end : ℕ) (r : Request) → readTable table ≡ got l end
+      → readRequest (length (tableOf l .names .spaces)) request ≡ some r → ((k : Key) → TargetMeans (tableOf l .names) (r .subject) k → ⊥) → Room sheet₀ derivation₀ a
+      → Decides table request sheet₀ derivation₀ a sheet derivation → a ≡ decided.Unnamed
