@@ -20,7 +20,7 @@ use Rattle.rules.proofs.SheetsLaws.{filling-start, filling-step, filling-leads}
 use Rattle.records.specs.Parsed.{Parsed, got, bad, faultAt}
 use Rattle.records.specs.Fields.{field, fieldRead}
 use Rattle.records.specs.Many.{many}
-use Rattle.records.specs.Bindings.{isAmong}
+use Rattle.records.specs.Rows.{isAmong}
 use Rattle.records.specs.DerivationBytes.{listedNumber}
 use Rattle.records.specs.declared.faults.Kind.the-variants as kind
 use Rattle.records.specs.declared.faults.Fault.{Fault}

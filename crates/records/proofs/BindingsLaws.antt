@@ -2,12 +2,9 @@
 use mathlib.Core.Path.{_≡_, sym, _∙_, ap, subst}
 use mathlib.Core.Bool.{Bool, true, false}
 use mathlib.Core.List.{List}
-use Prim.Native.Nat.{ℕ, _+_, _<_, _≤_}
-use native.Mathlib.Numerals.{add-one}
+use Prim.Native.Nat.{ℕ, _<_}
 use lib.Dec.{ltb}
-use lib.ListN.{length, getD, drop, drop-of-length-le}
-use lib.Seq.{drop-cons}
-use borrow.Author.Tests.{eq-eqb, ne-eqb, ltb-true}
+use borrow.Author.Tests.{ltb-true}
 use Rattle.rules.specs.Choice.{pick}
 use Rattle.rules.specs.Ranges.{mostBase}
 use Rattle.rules.specs.Tables.{Target, Binding}
@@ -15,7 +12,7 @@ use Rattle.rules.specs.declared.Space.{Space}
 use Rattle.records.specs.Parsed.{got, bad, faultAt, _⟫_}
 use Rattle.records.specs.Fields.{anyNumber, tested, field, spaceField, fieldRead, spaceRead, fieldFault, spaceFault}
 use Rattle.records.specs.Targets.{targetField, targetValue, targetRead, targetFault}
-use Rattle.records.specs.Bindings.{bindingRecord, bindingRead, isAmong}
+use Rattle.records.specs.Bindings.{bindingRecord, bindingRead}
 use Rattle.records.specs.declared.faults.Kind.the-variants as kind
 use Rattle.records.specs.declared.faults.Fault.{Fault}
 use Rattle.records.specs.declared.fields.Field.{Field}
@@ -30,19 +27,6 @@ use Rattle.records.proofs.ParsedLaws.{got-then, bad-first, mapped-from}
 use Rattle.records.proofs.FormatLaws.{checked-got}
 use Rattle.records.proofs.FieldsLaws.{field-got, field-told, space-got, space-told}
 use Rattle.records.proofs.TargetsLaws.{target-got, target-told}
-
--- ---- whether a number is among others, from a place on
-pub among-here : (l : List ℕ) (n i : ℕ) → i < length l → getD l i 0 ≡ n → isAmong (drop i l) n ≡ true
-unfolding isAmong
-among-here l n i h e = rw (drop-cons l i 0 h, eq-eqb (getD l i 0) n e)
-
-pub among-on : (l : List ℕ) (n i : ℕ) → i < length l → (getD l i 0 ≡ n → ⊥) → isAmong (drop i l) n ≡ isAmong (drop (i + 1) l) n
-unfolding isAmong
-among-on l n i h e = rw (add-one, drop-cons l i 0 h, ne-eqb (getD l i 0) n e)
-
-pub among-end : (l : List ℕ) (n i : ℕ) → length l ≤ i → isAmong (drop i l) n ≡ false
-unfolding isAmong
-among-end l n i h = rw (drop-of-length-le l h)
 
 -- ---- a space that was found is one of the table's
 pub space-below : (spaces : ℕ) (s : List ℕ) (at : ℕ) (r : SpaceRead) (S : Space) (next : ℕ) → r ≡ spaceRead (spaceField spaces s at) → r ≡ asSpace.Space S next → S .0 < spaces

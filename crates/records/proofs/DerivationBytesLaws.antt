@@ -14,7 +14,7 @@ use Rattle.rules.specs.Lists.{_▷_}
 use Rattle.wire.specs.Number.{bytesOf}
 use Rattle.records.specs.Parsed.{Parsed, got, bad, faultAt}
 use Rattle.records.specs.Fields.{field, fieldRead}
-use Rattle.records.specs.Bindings.{isAmong}
+use Rattle.records.specs.Rows.{isAmong}
 use Rattle.records.specs.Many.{many, manyBytes}
 use Rattle.records.specs.Numbers.{numbersRead}
 use Rattle.records.specs.DerivationBytes.{mostDerivation, listedNumber, chainNumber, Laid, derivationFields, readDerivation, derivationRead, derivationBytes}

@@ -18,7 +18,7 @@ use Rattle.rules.proofs.ListsLaws.{in-snoc, in-left, in-last, at-head, at-tail}
 use Rattle.wire.specs.Number.{bytesOf, Bytes}
 use Rattle.records.specs.Parsed.{Parsed, got, Reader, _⟫_, _⊗_, mapped}
 use Rattle.records.specs.Fields.{field}
-use Rattle.records.specs.Bindings.{isAmong}
+use Rattle.records.specs.Rows.{isAmong}
 use Rattle.records.specs.Many.{many, manyBytes}
 use Rattle.records.specs.DerivationBytes.{mostDerivation, listedNumber, chainNumber, GoodDerivation, Laid, derivationFields, readDerivation, chainBytes, derivationBytes}
 use Rattle.records.specs.declared.faults.Kind.the-variants as kind

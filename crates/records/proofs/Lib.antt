@@ -4,6 +4,7 @@ pub mod FormatLaws
 pub mod FieldsLaws
 pub mod PathsLaws
 pub mod TargetsLaws
+pub mod RowsLaws
 pub mod BindingsLaws
 pub mod AccessesLaws
 pub mod DelegationsLaws

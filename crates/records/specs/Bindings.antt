@@ -43,7 +43,3 @@ bindingRead (bad e) = asBinding.Fault e
 
 abbrev pub packed : Space → ℕ → ℕ
 packed S b = S .0 * 65536 + b
-
-unfoldable pub isAmong : List ℕ → ℕ → Bool
-isAmong [] n = false
-isAmong (m ∷ l) n = pick (eqb m n) true (isAmong l n)

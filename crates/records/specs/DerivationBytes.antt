@@ -12,7 +12,7 @@ use Rattle.rules.specs.Ranges.{mostBindings, mostAccesses, mostDelegations}
 use Rattle.wire.specs.Number.{bytesOf}
 use Rattle.records.specs.Parsed.{got, bad, Reader, faultAt, _⟫_}
 use Rattle.records.specs.Fields.{field}
-use Rattle.records.specs.Bindings.{isAmong}
+use Rattle.records.specs.Rows.{isAmong}
 use Rattle.records.specs.Many.{many, manyBytes}
 use Rattle.records.specs.Requests.{whole}
 use Rattle.records.specs.declared.faults.Kind.the-variants as kind

@@ -3,6 +3,7 @@ pub mod Fields
 pub mod Paths
 pub mod Targets
 pub mod Many
+pub mod Rows
 pub mod Bindings
 pub mod Accesses
 pub mod Delegations

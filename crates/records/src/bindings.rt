@@ -1,7 +1,8 @@
 // Bindings: a space number, a base name and a target.
 ghost use mathlib.Core.Path.{_≡_};
 ghost use Prim.Native.Nat.{_+_, _*_, _<_, _≤_};
-ghost use Rattle.records.specs.Bindings.{bindingRecord, bindingRead, packed, isAmong};
+ghost use Rattle.records.specs.Bindings.{bindingRecord, bindingRead, packed};
+ghost use Rattle.records.specs.Rows.{isAmong};
 use crate::faults::Fault;
 use crate::faults::Kind;
 use crate::faults::fault_at;
@@ -12,6 +13,7 @@ use crate::fields::field_fault;
 use crate::fields::read_field;
 use crate::fields::read_space;
 use crate::fields::space_fault;
+use crate::rows::is_among;
 use crate::targets::Target;
 use crate::targets::TargetRead;
 use crate::targets::read_target;
@@ -35,20 +37,6 @@ pub fn pack(space: Space, base: u32) -> u32
     ensures { λ r. ⌜ r ≡ packed space base ⌝ }
 {
     space.0 as u32 * 65536 + base
-}
-
-// Whether the number is one of these.
-pub fn is_among(numbers: &[u32], number: u32) -> bool
-    ensures { λ r. ⌜ r ≡ isAmong (now (numbers .entry)) number ⌝ }
-{
-    let mut i = 0;
-    while i < numbers.len() {
-        if numbers[i] == number {
-            return true;
-        }
-        i = i + 1;
-    }
-    false
 }
 
 // The binding that `rest` begins with; `earlier` are the names that are bound already, packed.

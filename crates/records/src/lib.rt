@@ -9,4 +9,5 @@ pub mod keys;
 pub mod paths;
 pub mod reader;
 pub mod requests;
+pub mod rows;
 pub mod targets;

@@ -12,7 +12,8 @@ use Rattle.rules.specs.declared.Key.{Key}
 use Rattle.rules.proofs.ListsLaws.{at-head, at-tail}
 use Rattle.records.specs.Paths.{pathOf, pathValue}
 use Rattle.records.specs.Targets.{targetOf, targetValue}
-use Rattle.records.specs.Bindings.{bindingRecord, bindingRead, bindingValue, isAmong, packed}
+use Rattle.records.specs.Bindings.{bindingRecord, bindingRead, bindingValue, packed}
+use Rattle.records.specs.Rows.{isAmong}
 use Rattle.records.specs.declared.faults.Fault.{Fault}
 use Rattle.records.specs.declared.targets.Target.{Target as TargetValue}
 use Rattle.records.specs.declared.bindings.Binding.{Binding as BindingValue}

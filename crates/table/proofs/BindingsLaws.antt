@@ -13,7 +13,8 @@ use Rattle.rules.specs.declared.Space.{Space}
 use Rattle.records.specs.Parsed.{Parsed, got, bad, faultAt, movedFault, _⟫_}
 use Rattle.records.specs.Fields.{field, spaceField, fieldRead, spaceRead}
 use Rattle.records.specs.Targets.{targetField}
-use Rattle.records.specs.Bindings.{bindingRecord, isBound, isAmong, packed, bindingRead, bindingValue}
+use Rattle.records.specs.Bindings.{bindingRecord, isBound, packed, bindingRead, bindingValue}
+use Rattle.records.specs.Rows.{isAmong}
 use Rattle.records.specs.Many.{many}
 use Rattle.records.specs.declared.faults.Kind.the-variants as kind
 use Rattle.records.specs.declared.faults.Fault.{Fault}

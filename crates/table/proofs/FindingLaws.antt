@@ -1,9 +1,8 @@
--- Going through numbers until one is the one that is looked for.
+-- The space and the binding whose number was found first in a row.
 use mathlib.Core.Path.{_≡_, sym, _∙_, ap, ap₂, subst}
 use mathlib.Core.List.{List, [], _∷_, map}
-use Prim.Native.Nat.{ℕ, _+_, _<_, _≤_}
+use Prim.Native.Nat.{ℕ, _<_, _≤_}
 use native.Mathlib.Omega.{arith}
-use native.Mathlib.Decide.{ℕ-discrete}
 use lib.ListN.{length, getD, length-map, List·getD-map}
 use Rattle.rules.specs.Lists.{At}
 use Rattle.rules.specs.Tables.{Binding}
@@ -12,25 +11,11 @@ use Rattle.rules.specs.declared.Key.{Key}
 use Rattle.rules.specs.declared.Space.{Space}
 use Rattle.rules.proofs.ListsLaws.{getD-any, at-getD, at-reads}
 use Rattle.records.specs.Bindings.{packed}
+use Rattle.records.specs.Rows.{First}
 use Rattle.table.specs.Finding.{FindsSpace, has, nobody, FindsBinding, opens, nothing, keysOf, Names}
 use Rattle.table.specs.declared.finding.SpaceFound.the-variants as space
 use Rattle.table.specs.declared.finding.BindingFound.the-variants as binding
 use Rattle.table.specs.Kept.{nameOf}
-
--- The first `i` numbers are others.
-pub record Passed (l : List ℕ) (n i : ℕ) : Type 0 where
-  pub most : i ≤ length l
-  pub others : (j : ℕ) → j < i → getD l j 0 ≡ n → ⊥
-
-pub passed-start : (l : List ℕ) (n : ℕ) → Passed l n 0
-passed-start l n = record { most = omega arith; others = λ j h e. absurd (omega arith) }
-
-pub passed-on : (l : List ℕ) (n i : ℕ) → Passed l n i → i < length l → (getD l i 0 ≡ n → ⊥) → Passed l n (i + 1)
-passed-on l n i p h o = record { most = omega arith; others = λ j g. go j g (ℕ-discrete j i) }
-  where
-    go : (j : ℕ) → j < i + 1 → Dec (j ≡ i) → getD l j 0 ≡ n → ⊥
-    go j g (yes e) q = o (subst (λ (k : ℕ). getD l k 0 ≡ n) e q)
-    go j g (no d) q = p .others j (omega arith) q
 
 -- ---- spaces
 module _ (keys : List ℕ) (k : Key) where
@@ -46,8 +31,8 @@ module _ (keys : List ℕ) (k : Key) where
       let a : At (keysOf keys) i (getD (keysOf keys) i (record { 0 = 0 })) = at-getD (keysOf keys) i (record { 0 = 0 }) (omega arith) in
       has (record { 0 = i }) (record { at = subst (λ (x : Key). At (keysOf keys) i x) (List·getD-map {B = Key} (λ (n : ℕ). record { 0 = n }) keys i 0 ∙ ap (λ (n : ℕ). record { 0 = n }) e) a })
 
-  pub space-nowhere : (i : ℕ) → Passed keys (k .0) i → length keys ≤ i → FindsSpace (keysOf keys) k space.None
-  space-nowhere i p h = nobody (λ S s. let w = key-there (S .0) (s .at) in p .others (S .0) (omega (arith, w .0)) (w .1))
+  pub space-nowhere : (i : ℕ) → First keys (k .0) i → length keys ≤ i → FindsSpace (keysOf keys) k space.None
+  space-nowhere i f h = nobody (λ S s. let w = key-there (S .0) (s .at) in f .passed .others (S .0) (omega (arith, w .0)) (w .1))
 
 -- ---- bindings
 -- There is an element below the length.
@@ -79,6 +64,6 @@ module _ (names : List ℕ) (T : Space) (b : ℕ) (below : b < 65536) where
             let w = same-name x i a (sym (name-at i x a .1) ∙ e) in
             opens i (x .target) (record { at = subst (λ (y : Binding). At l i y) (ap₂ (λ (S : Space) (c : ℕ). record { space = S; base = c; target = x .target }) (w .0) (w .1)) a })
 
-    pub binding-nowhere : (i : ℕ) → Passed names (packed T b) i → length names ≤ i → FindsBinding l T b binding.None
+    pub binding-nowhere : (i : ℕ) → First names (packed T b) i → length names ≤ i → FindsBinding l T b binding.None
     unfolding opener
-    binding-nowhere i p h = nothing (λ j g o. let w = name-at j (record { space = T; base = b; target = g }) (o .at) in p .others j (omega (arith, w .0)) (w .1))
+    binding-nowhere i f h = nothing (λ j g o. let w = name-at j (record { space = T; base = b; target = g }) (o .at) in f .passed .others j (omega (arith, w .0)) (w .1))

@@ -19,7 +19,8 @@ use Rattle.rules.specs.declared.Key.{Key}
 use Rattle.rules.specs.declared.Space.{Space}
 use Rattle.rules.proofs.ListsLaws.{at-head, at-tail}
 use Rattle.wire.proofs.PartsLaws.{below-or}
-use Rattle.records.specs.Bindings.{isBound, isAmong}
+use Rattle.records.specs.Bindings.{isBound}
+use Rattle.records.specs.Rows.{isAmong}
 use Rattle.records.proofs.ManyForm.{AllFit, fit-at, at-fit}
 use Rattle.table.specs.ReadTable.{numbers}
 use Rattle.table.proofs.TableForm.{TableFits}

@@ -15,7 +15,8 @@ use Rattle.rules.specs.Lists.{At, _▷_}
 use Rattle.rules.specs.Ranges.{mostBase}
 use Rattle.rules.specs.Tables.{Binding}
 use Rattle.rules.specs.declared.Space.{Space}
-use Rattle.records.specs.Bindings.{isBound, isAmong, packed}
+use Rattle.records.specs.Bindings.{isBound, packed}
+use Rattle.records.specs.Rows.{isAmong}
 use Rattle.records.specs.Parsed.{got, Reader}
 use Rattle.records.proofs.DerivationBytesLaws.{among-snoc}
 use Rattle.rules.proofs.ListsLaws.{at-one, at-end, at-before}

@@ -10,7 +10,7 @@ use Rattle.rules.specs.Lists.{_▷_}
 use Rattle.rules.specs.declared.Key.{Key}
 use Rattle.records.specs.Parsed.{got, bad, faultAt}
 use Rattle.records.specs.Fields.{keyField, keyRead, keyFault}
-use Rattle.records.specs.Bindings.{isAmong}
+use Rattle.records.specs.Rows.{isAmong}
 use Rattle.records.specs.Many.{many}
 use Rattle.records.specs.declared.faults.Kind.the-variants as kind
 use Rattle.records.specs.declared.faults.Fault.{Fault}

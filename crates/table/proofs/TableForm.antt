@@ -13,7 +13,8 @@ use Rattle.rules.specs.declared.Key.{Key}
 use Rattle.wire.specs.Number.{bytesOf}
 use Rattle.records.specs.Parsed.{Parsed, got, bad, Reader, _⟫_, _⊗_, mapped}
 use Rattle.records.specs.Fields.{anyNumber, keyField}
-use Rattle.records.specs.Bindings.{isBound, isAmong, bindingBytes}
+use Rattle.records.specs.Bindings.{isBound, bindingBytes}
+use Rattle.records.specs.Rows.{isAmong}
 use Rattle.records.specs.Accesses.{accessBytes}
 use Rattle.records.specs.Delegations.{delegationBytes}
 use Rattle.records.specs.declared.faults.Kind.the-variants as kind

@@ -10,7 +10,8 @@ use Rattle.wire.specs.Number.{bytesOf}
 use Rattle.records.specs.Parsed.{Parsed, got, bad, Reader, faultAt, _⟫_}
 use Rattle.records.specs.Fields.{keyField}
 use Rattle.records.specs.Many.{manyBytes}
-use Rattle.records.specs.Bindings.{bindingRecord, isBound, isAmong, bindingBytes}
+use Rattle.records.specs.Bindings.{bindingRecord, isBound, bindingBytes}
+use Rattle.records.specs.Rows.{isAmong}
 use Rattle.records.specs.Accesses.{accessRecord, accessBytes}
 use Rattle.records.specs.Delegations.{delegationRecord, delegationBytes}
 use Rattle.records.specs.declared.faults.Kind.the-variants as kind

@@ -3,6 +3,7 @@ ghost use Prim.Native.Nat.{_<_};
 ghost use lib.ListN.{length};
 ghost use Rattle.table.specs.Finding.{FindsSpace, FindsNamed, Below, keysOf};
 use records::bindings::pack;
+use records::rows::find_first;
 use rules::Key;
 use rules::Space;
 
@@ -20,12 +21,9 @@ pub enum BindingFound {
 pub fn find_space(keys: &[u32], key: Key) -> SpaceFound
     ensures { λ r. ⌜ FindsSpace (keysOf (now (keys .entry))) key r ⌝ }
 {
-    let mut i = 0;
-    while i < keys.len() {
-        if keys[i] == key.0 {
-            return SpaceFound::Space(Space(i));
-        }
-        i = i + 1;
+    let i = find_first(keys, key.0);
+    if i < keys.len() {
+        return SpaceFound::Space(Space(i));
     }
     SpaceFound::None
 }
@@ -36,13 +34,9 @@ pub fn find_binding(names: &[u32], space: Space, base: u32) -> BindingFound
     ensures found { λ r. ⌜ FindsNamed (now (names .entry)) space base r ⌝ }
     ensures there { λ r. ⌜ Below (length (now (names .entry))) r ⌝ }
 {
-    let wanted = pack(space, base);
-    let mut i = 0;
-    while i < names.len() {
-        if names[i] == wanted {
-            return BindingFound::Binding(i);
-        }
-        i = i + 1;
+    let i = find_first(names, pack(space, base));
+    if i < names.len() {
+        return BindingFound::Binding(i);
     }
     BindingFound::None
 }

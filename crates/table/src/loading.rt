@@ -15,7 +15,6 @@ ghost use Rattle.table.specs.Kept.{IfGood, Kept, Standing, numberOf, nam
 use records::accesses::AccessRead;
 use records::accesses::read_access;
 use records::bindings::BindingRead;
-use records::bindings::is_among;
 use records::bindings::pack;
 use records::bindings::read_binding;
 use records::delegations::DelegationRead;
@@ -31,6 +30,7 @@ use records::fields::key_fault;
 use records::fields::read_field;
 use records::fields::read_key;
 use records::reader::number_at;
+use records::rows::is_among;
 
 pub const MOST_SPACES: u32 = 64;
 

@@ -1,7 +1,7 @@
 -- `read_binding` passes on the fault of the first part that has one, finds a base name that is bound already at its place, and else the binding.
 use mathlib.Core.Path.{sym, _∙_, ap}
 use native.Mathlib.Omega.{arith}
-use Rattle.records.specs.Bindings.{isAmong}
+use Rattle.records.specs.Rows.{isAmong}
 use Rattle.records.proofs.FieldsLaws.{field-within}
 use Rattle.records.proofs.BindingsLaws.{space-below, space-fails, base-fails, twice-found, target-fails, binding-found}
 use borrow.Author.Needs.{needs}
