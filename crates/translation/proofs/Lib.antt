@@ -2,6 +2,7 @@
 pub mod OrderLaws
 pub mod TurnsLaws
 pub mod WritingLaws
+pub mod SectionsLaws
 pub mod BecomingLaws
 pub mod GoodLaws
 pub mod KeyTableLaws

@@ -4,19 +4,19 @@ use mathlib.Core.Logic.{_⊎_, inl, inr}
 use mathlib.Core.List.{List, [], _∷_}
 use Prim.Native.Nat.{ℕ, suc, _+_, _<_, _≤_}
 use native.Mathlib.Numerals.{add-one}
-use native.Mathlib.Nat.{add-zero}
 use native.Mathlib.Omega.{arith}
 use lib.ListN.{length, drop, getD, length-drop, drop-of-length-le}
 use lib.Seq.{drop-cons}
 use Rattle.rules.specs.Lists.{At}
 use Rattle.rules.specs.Translation.{InOrder, done, kept, omitted}
 use Rattle.table.proofs.FindingLaws.{at-below}
-use Rattle.translation.specs.Becoming.{Becomes, Counts, one, zero}
+use Rattle.translation.specs.Becoming.{Becomes}
 
 -- Of the records `l`, which become `m`, the first `i` are passed, and they became the first `n`.
 pub record Passed {A B : Type 0} (T : A → B → Type 0) (l : List A) (m : List B) (i n : ℕ) : Type 0 where
   pub most : i ≤ length l
   pub few : n ≤ length m
+  pub fewer : n ≤ i
   pub rest : InOrder T (drop i l) (drop n m)
 
 module _ {A B : Type 0} (T : A → B → Type 0) where
@@ -43,7 +43,7 @@ module _ {A B : Type 0} (T : A → B → Type 0) where
 module _ {A B : Type 0} (T : A → B → Type 0) (l : List A) (m : List B) where
   -- At the start none is passed,
   pub passed-start : InOrder T l m → Passed T l m 0 0
-  passed-start o = record { most = omega arith; few = omega arith; rest = o }
+  passed-start o = record { most = omega arith; few = omega arith; fewer = omega arith; rest = o }
 
   -- and at the end all are.
   pub passed-end : (i n : ℕ) → Passed T l m i n → length l ≤ i → n ≡ length m
@@ -67,7 +67,7 @@ module _ {A B : Type 0} (T : A → B → Type 0) (l : List A) (m : List B) where
             let d : getD m n y ∷ drop (suc n) m ≡ z ∷ k = sym (drop-cons m n y g) ∙ e in
             let u : getD m n y ≡ z = cc d in
             let v : drop (suc n) m ≡ k = cc d in
-            (record { there = g; is = u ∙ q }, record { most = omega arith; few = omega arith; rest = rw (add-one i, add-one n, v) o })
+            (record { there = g; is = u ∙ q }, record { most = omega arith; few = omega arith; fewer = omega (arith, p .fewer); rest = rw (add-one i, add-one n, v) o })
         go (inr (f, o)) = absurd (f y (b .keys))
 
     -- or nothing, and the list goes on as it is.
@@ -76,15 +76,7 @@ module _ {A B : Type 0} (T : A → B → Type 0) (l : List A) (m : List B) where
       where
         after : (x : A) → At l i x → First T x (drop (suc i) l) (drop n m) → Passed T l m (i + 1) n
         after x a (inl (z, k, w, e, o)) = absurd (f z (record { from = x; at = a; keys = w }))
-        after x a (inr (w, o)) = record { most = omega arith; few = p .few; rest = rw add-one o }
+        after x a (inr (w, o)) = record { most = omega arith; few = p .few; fewer = omega (arith, p .fewer); rest = rw add-one o }
 
         go : (x : A) × At l i x → Passed T l m (i + 1) n
         go (x, a) = after x a (order-first T x (drop (suc i) l) (drop n m) (from-here x a))
-
-    -- ---- counting
-    pub passed-on : (c : ℕ) → Counts (Becomes T l i) c → Passed T l m (i + 1) (n + c)
-    passed-on c (one {y = y} b) = next-kept y b .1
-    passed-on c (zero f) = rw add-zero (next-omitted f)
-
-    pub count-fits : (c : ℕ) → Counts (Becomes T l i) c → n + c ≤ length m
-    count-fits c w = passed-on c w .few

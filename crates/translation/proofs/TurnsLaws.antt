@@ -1,5 +1,5 @@
 -- What is done with one record, by what it becomes.
-use mathlib.Core.Path.{_≡_, sym, ap, subst, subst₂}
+use mathlib.Core.Path.{_≡_, sym, subst, subst₂}
 use mathlib.Core.List.{List}
 use mathlib.Core.Option.{Option, none, some, Option·some-injective}
 use Prim.Native.Nat.{ℕ, _+_, _-_, _≤_}
@@ -9,7 +9,8 @@ use borrow.Rule.Slice.PartMut.{putMid}
 use Rattle.wire.specs.Placed.{placed}
 use Rattle.wire.proofs.PlacedLaws.{placed-rest}
 use Rattle.wire.proofs.PartsLaws.{rest-of}
-use Rattle.translation.specs.Becoming.{Keyed, becomes, nothing, Counts, one, zero, Puts, put, left, RoomFor}
+use Rattle.translation.specs.Becoming.{Keyed, becomes, nothing, Puts, put, left, RoomFor}
+use Rattle.translation.specs.declared.sections.Written.{Written}
 
 module _ {B : Type 0} (P : B → Type 0) (o : Option B) (told : Keyed P o) where
   told-one : (y : B) → o ≡ some y → P y
@@ -26,26 +27,20 @@ module _ {B : Type 0} (P : B → Type 0) (o : Option B) (told : Keyed P o) where
       go (becomes p) e = let z : _≡_ {A = ℕ} 0 1 = cc in absurd (omega arith)
       go (nothing f) e = f
 
-  -- ---- counting
-  pub counts-one : (y : B) → o ≡ some y → Counts P 1
-  counts-one y e = one (told-one y e)
-
-  pub counts-none : o ≡ none → Counts P 0
-  counts-none e = zero (told-none e)
-
   -- ---- writing
-  module _ (E : B → List ℕ) (out : List ℕ) (at : ℕ) where
-    pub leaves-all : o ≡ none → Puts P E out at out at
-    leaves-all e = left (told-none e)
+  module _ (E : B → List ℕ) (out : List ℕ) where
+    pub leaves-all : (written : Written) → o ≡ none → Puts P E out written out written
+    leaves-all written e = left (told-none e)
 
-    module _ (room : RoomFor P E out at) (y : B) (e : o ≡ some y) where
+    module _ (at : ℕ) (room : RoomFor P E out at) (y : B) (e : o ≡ some y) where
       pub has-room : length (E y) ≤ length (take (length out - at) (drop at out))
       has-room = rw (rest-of out at, length-drop) (omega (arith, room .room y (told-one y e)))
 
       pub ends-within : (m : ℕ) → m ≡ length (E y) → at + m ≤ length out
       ends-within m q = omega (arith, q, room .room y (told-one y e))
 
-      pub puts-one : (m : ℕ) (last : List ℕ) → (m ≡ length (E y)) × (last ≡ placed (take (length out - at) (drop at out)) 0 (E y))
-          → Puts P E out at (putMid at (length out - at) out last) (at + m)
-      puts-one m last w =
-          subst₂ (λ (k : List ℕ) (n : ℕ). Puts P E out at k n) (sym (placed-rest out last (E y) at (w .1))) (ap (λ (n : ℕ). at + n) (sym (w .0))) (put (told-one y e))
+      pub puts-one : (n m : ℕ) (last : List ℕ) → (m ≡ length (E y)) × (last ≡ placed (take (length out - at) (drop at out)) 0 (E y))
+          → Puts P E out (record { count = n; end = at }) (putMid at (length out - at) out last) (record { count = n + 1; end = at + m })
+      puts-one n m last w =
+          subst₂ (λ (k : List ℕ) (j : ℕ). Puts P E out (record { count = n; end = at }) k (record { count = n + 1; end = at + j })) (sym (placed-rest out last (E y) at (w .1))) (sym (w .0))
+          (put (told-one y e))

@@ -15,6 +15,7 @@ use Rattle.table.specs.ReadTable.{tableAt}
 use Rattle.matching.specs.Matching.{Held}
 use Rattle.translation.specs.declared.accesses.AccessKeys.{AccessKeys}
 use Rattle.translation.specs.declared.accesses.AccessKeys.the-variants as asAccess
+use Rattle.translation.specs.declared.sections.Written.{Written}
 use Rattle.translation.specs.declared.delegations.DelegationKeys.{DelegationKeys}
 use Rattle.translation.specs.declared.delegations.DelegationKeys.the-variants as asDelegation
 
@@ -36,15 +37,10 @@ pub data Keyed {B : Type 0} (P : B → Type 0) : Option B → Type 0 where
   becomes : {y : B} → P y → Keyed P (some y)
   nothing : ((y : B) → P y → ⊥) → Keyed P none
 
--- A record that becomes one counts 1, any other 0.
-pub data Counts {B : Type 0} (P : B → Type 0) : ℕ → Type 0 where
-  one : {y : B} → P y → Counts P 1
-  zero : ((y : B) → P y → ⊥) → Counts P 0
-
--- What it becomes is placed at `at`, and the place after it told; where it becomes nothing, all stays.
-pub data Puts {B : Type 0} (P : B → Type 0) (E : B → List ℕ) (before : List ℕ) (at : ℕ) : List ℕ → ℕ → Type 0 where
-  put : {y : B} → P y → Puts P E before at (placed before at (E y)) (at + length (E y))
-  left : ((y : B) → P y → ⊥) → Puts P E before at before at
+-- What it becomes is placed behind what is written, and counted; where it becomes nothing, all stays.
+pub data Puts {B : Type 0} (P : B → Type 0) (E : B → List ℕ) (before : List ℕ) (written : Written) : List ℕ → Written → Type 0 where
+  put : {y : B} → P y → Puts P E before written (placed before (written .end) (E y)) (record { count = written .count + 1; end = written .end + length (E y) })
+  left : ((y : B) → P y → ⊥) → Puts P E before written before written
 
 -- There is room for it.
 pub record RoomFor {B : Type 0} (P : B → Type 0) (E : B → List ℕ) (out : List ℕ) (at : ℕ) : Type 0 where

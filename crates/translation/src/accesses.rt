@@ -1,12 +1,14 @@
-// Access records with keys in the place of names: what one becomes, how many there are, and writing them.
+// Access records with keys in the place of names: what one becomes, and writing them.
 ghost use mathlib.Core.Path.{_≡_};
 ghost use Prim.Native.Nat.{_+_, _<_, _≤_};
 ghost use lib.ListN.{length};
 ghost use Rattle.wire.specs.Placed.{placed};
 ghost use Rattle.records.specs.Many.{manyBytes};
 ghost use Rattle.records.specs.KeyRecords.{keyAccessBytes};
-ghost use Rattle.table.specs.ReadTable.{tableAt};
-ghost use Rattle.translation.specs.Becoming.{AccessBecomes, Keyed, Counts, Puts, RoomFor, accessTold, Ready, keyTableAt};
+ghost use Rattle.table.specs.ReadTable.{tableAt, sectionBytes};
+ghost use Rattle.translation.specs.Becoming.{AccessBecomes, Keyed, Puts, RoomFor, accessTold, Ready, keyTableAt};
+use crate::sections::Written;
+use crate::sections::put_count;
 use records::accesses::AccessRead;
 use records::accesses::read_access;
 use records::keys::KeyAccess;
@@ -56,47 +58,7 @@ fn access_keys(
     }
 }
 
-// 1 if access record number `i` is kept, 0 if it is omitted.
-fn count_access(
-    table: &[u8],
-    keys: &[u32],
-    names: &[u32],
-    accesses: &[u16],
-    delegations: &[u16],
-    sheet: &[u32],
-    i: usize,
-) -> usize
-    requires { ⌜ Ready (now table) (now keys) (now names) (now accesses) (now delegations) (now sheet) × (i < length (tableAt (now table) .accesses)) ⌝ }
-    ensures { λ r. ⌜ Counts (AccessBecomes (now (table .entry)) i) r ⌝ }
-{
-    match access_keys(table, keys, names, accesses, delegations, sheet, i) {
-        AccessKeys::Keys(_) => 1,
-        AccessKeys::Omitted => 0,
-    }
-}
-
-// How many access records are kept.
-pub fn count_accesses(
-    table: &[u8],
-    keys: &[u32],
-    names: &[u32],
-    accesses: &[u16],
-    delegations: &[u16],
-    sheet: &[u32],
-) -> usize
-    requires { ⌜ Ready (now table) (now keys) (now names) (now accesses) (now delegations) (now sheet) ⌝ }
-    ensures { λ r. ⌜ r ≡ length (keyTableAt (now (table .entry)) .accesses) ⌝ }
-{
-    let mut n = 0;
-    let mut i = 0;
-    while i < accesses.len() {
-        n = n + count_access(table, keys, names, accesses, delegations, sheet, i);
-        i = i + 1;
-    }
-    n
-}
-
-// Writes what access record number `i` becomes at the place `at`, and returns the place after it.
+// Writes what access record number `i` becomes behind the records that are written, and counts it.
 fn write_access(
     table: &[u8],
     keys: &[u32],
@@ -106,21 +68,24 @@ fn write_access(
     sheet: &[u32],
     i: usize,
     out: &mut [u8],
-    at: usize,
-) -> usize
+    written: Written,
+) -> Written
     requires { ⌜ Ready (now table) (now keys) (now names) (now accesses) (now delegations) (now sheet) × (i < length (tableAt (now table) .accesses))
-        × (at ≤ length (now out)) × RoomFor (AccessBecomes (now table) i) keyAccessBytes (now out) at ⌝ }
-    ensures { λ r. ⌜ Puts (AccessBecomes (now (table .entry)) i) keyAccessBytes (now (out .entry)) at (now (out .exit)) r ⌝ }
+        × (written .count ≤ i) × (written .end ≤ length (now out)) × RoomFor (AccessBecomes (now table) i) keyAccessBytes (now out) (written .end) ⌝ }
+    ensures { λ r. ⌜ Puts (AccessBecomes (now (table .entry)) i) keyAccessBytes (now (out .entry)) written (now (out .exit)) r ⌝ }
 {
     let found = access_keys(table, keys, names, accesses, delegations, sheet, i);
     let AccessKeys::Keys(record) = found else {
-        return at;
+        return written;
     };
-    at + write_key_access(&mut out[at..], record)
+    let at = written.end;
+    let end = at + write_key_access(&mut out[at..], record);
+    let count = written.count + 1;
+    Written { count, end }
 }
 
-// Writes the access records that are kept one behind the other from the place `from` on, and returns the place after them.
-pub fn write_accesses(
+// Writes the access records that are kept one behind the other from the place `from` on.
+fn write_accesses(
     table: &[u8],
     keys: &[u32],
     names: &[u32],
@@ -129,17 +94,59 @@ pub fn write_accesses(
     sheet: &[u32],
     out: &mut [u8],
     from: usize,
-) -> usize
+) -> Written
     requires { ⌜ Ready (now table) (now keys) (now names) (now accesses) (now delegations) (now sheet)
         × (from + length (manyBytes keyAccessBytes (keyTableAt (now table) .accesses)) ≤ length (now out)) ⌝ }
-    ensures { λ r. ⌜ (r ≡ from + length (manyBytes keyAccessBytes (keyTableAt (now (table .entry)) .accesses)))
+    ensures { λ r. ⌜ (r .count ≡ length (keyTableAt (now (table .entry)) .accesses)) × (r .end ≡ from + length (manyBytes keyAccessBytes (keyTableAt (now (table .entry)) .accesses)))
         × (now (out .exit) ≡ placed (now (out .entry)) from (manyBytes keyAccessBytes (keyTableAt (now (table .entry)) .accesses))) ⌝ }
 {
-    let mut at = from;
+    let mut written = Written {
+        count: 0,
+        end: from,
+    };
     let mut i = 0;
     while i < accesses.len() {
-        at = write_access(table, keys, names, accesses, delegations, sheet, i, out, at);
+        written = write_access(
+            table,
+            keys,
+            names,
+            accesses,
+            delegations,
+            sheet,
+            i,
+            out,
+            written,
+        );
         i = i + 1;
     }
-    at
+    written
+}
+
+// Writes the section of the access records that are kept at the place `at`, and returns the place after it.
+pub fn write_access_section(
+    table: &[u8],
+    keys: &[u32],
+    names: &[u32],
+    accesses: &[u16],
+    delegations: &[u16],
+    sheet: &[u32],
+    out: &mut [u8],
+    at: usize,
+) -> usize
+    requires { ⌜ Ready (now table) (now keys) (now names) (now accesses) (now delegations) (now sheet)
+        × (at + length (sectionBytes keyAccessBytes (keyTableAt (now table) .accesses)) ≤ length (now out)) ⌝ }
+    ensures { λ r. ⌜ (r ≡ at + length (sectionBytes keyAccessBytes (keyTableAt (now (table .entry)) .accesses)))
+        × (now (out .exit) ≡ placed (now (out .entry)) at (sectionBytes keyAccessBytes (keyTableAt (now (table .entry)) .accesses))) ⌝ }
+{
+    let written = write_accesses(
+        table,
+        keys,
+        names,
+        accesses,
+        delegations,
+        sheet,
+        out,
+        at + 1,
+    );
+    put_count(out, at, written)
 }

@@ -1,12 +1,14 @@
-// Delegations with keys in the place of names: what one becomes, how many there are, and writing them.
+// Delegations with keys in the place of names: what one becomes, and writing them.
 ghost use mathlib.Core.Path.{_≡_};
 ghost use Prim.Native.Nat.{_+_, _<_, _≤_};
 ghost use lib.ListN.{length};
 ghost use Rattle.wire.specs.Placed.{placed};
 ghost use Rattle.records.specs.Many.{manyBytes};
 ghost use Rattle.records.specs.KeyRecords.{keyDelegationBytes};
-ghost use Rattle.table.specs.ReadTable.{tableAt};
-ghost use Rattle.translation.specs.Becoming.{DelegationBecomes, Keyed, Counts, Puts, RoomFor, delegationTold, Ready, keyTableAt};
+ghost use Rattle.table.specs.ReadTable.{tableAt, sectionBytes};
+ghost use Rattle.translation.specs.Becoming.{DelegationBecomes, Keyed, Puts, RoomFor, delegationTold, Ready, keyTableAt};
+use crate::sections::Written;
+use crate::sections::put_count;
 use records::delegations::DelegationRead;
 use records::delegations::read_delegation;
 use records::keys::KeyDelegation;
@@ -62,47 +64,7 @@ fn delegation_keys(
     }
 }
 
-// 1 if delegation number `i` is kept, 0 if it is omitted.
-fn count_delegation(
-    table: &[u8],
-    keys: &[u32],
-    names: &[u32],
-    accesses: &[u16],
-    delegations: &[u16],
-    sheet: &[u32],
-    i: usize,
-) -> usize
-    requires { ⌜ Ready (now table) (now keys) (now names) (now accesses) (now delegations) (now sheet) × (i < length (tableAt (now table) .delegations)) ⌝ }
-    ensures { λ r. ⌜ Counts (DelegationBecomes (now (table .entry)) i) r ⌝ }
-{
-    match delegation_keys(table, keys, names, accesses, delegations, sheet, i) {
-        DelegationKeys::Keys(_) => 1,
-        DelegationKeys::Omitted => 0,
-    }
-}
-
-// How many delegations are kept.
-pub fn count_delegations(
-    table: &[u8],
-    keys: &[u32],
-    names: &[u32],
-    accesses: &[u16],
-    delegations: &[u16],
-    sheet: &[u32],
-) -> usize
-    requires { ⌜ Ready (now table) (now keys) (now names) (now accesses) (now delegations) (now sheet) ⌝ }
-    ensures { λ r. ⌜ r ≡ length (keyTableAt (now (table .entry)) .delegations) ⌝ }
-{
-    let mut n = 0;
-    let mut i = 0;
-    while i < delegations.len() {
-        n = n + count_delegation(table, keys, names, accesses, delegations, sheet, i);
-        i = i + 1;
-    }
-    n
-}
-
-// Writes what delegation number `i` becomes at the place `at`, and returns the place after it.
+// Writes what delegation number `i` becomes behind the records that are written, and counts it.
 fn write_delegation(
     table: &[u8],
     keys: &[u32],
@@ -112,21 +74,24 @@ fn write_delegation(
     sheet: &[u32],
     i: usize,
     out: &mut [u8],
-    at: usize,
-) -> usize
+    written: Written,
+) -> Written
     requires { ⌜ Ready (now table) (now keys) (now names) (now accesses) (now delegations) (now sheet) × (i < length (tableAt (now table) .delegations))
-        × (at ≤ length (now out)) × RoomFor (DelegationBecomes (now table) i) keyDelegationBytes (now out) at ⌝ }
-    ensures { λ r. ⌜ Puts (DelegationBecomes (now (table .entry)) i) keyDelegationBytes (now (out .entry)) at (now (out .exit)) r ⌝ }
+        × (written .count ≤ i) × (written .end ≤ length (now out)) × RoomFor (DelegationBecomes (now table) i) keyDelegationBytes (now out) (written .end) ⌝ }
+    ensures { λ r. ⌜ Puts (DelegationBecomes (now (table .entry)) i) keyDelegationBytes (now (out .entry)) written (now (out .exit)) r ⌝ }
 {
     let found = delegation_keys(table, keys, names, accesses, delegations, sheet, i);
     let DelegationKeys::Keys(record) = found else {
-        return at;
+        return written;
     };
-    at + write_key_delegation(&mut out[at..], record)
+    let at = written.end;
+    let end = at + write_key_delegation(&mut out[at..], record);
+    let count = written.count + 1;
+    Written { count, end }
 }
 
-// Writes the delegations that are kept one behind the other from the place `from` on, and returns the place after them.
-pub fn write_delegations(
+// Writes the delegations that are kept one behind the other from the place `from` on.
+fn write_delegations(
     table: &[u8],
     keys: &[u32],
     names: &[u32],
@@ -135,17 +100,59 @@ pub fn write_delegations(
     sheet: &[u32],
     out: &mut [u8],
     from: usize,
-) -> usize
+) -> Written
     requires { ⌜ Ready (now table) (now keys) (now names) (now accesses) (now delegations) (now sheet)
         × (from + length (manyBytes keyDelegationBytes (keyTableAt (now table) .delegations)) ≤ length (now out)) ⌝ }
-    ensures { λ r. ⌜ (r ≡ from + length (manyBytes keyDelegationBytes (keyTableAt (now (table .entry)) .delegations)))
+    ensures { λ r. ⌜ (r .count ≡ length (keyTableAt (now (table .entry)) .delegations)) × (r .end ≡ from + length (manyBytes keyDelegationBytes (keyTableAt (now (table .entry)) .delegations)))
         × (now (out .exit) ≡ placed (now (out .entry)) from (manyBytes keyDelegationBytes (keyTableAt (now (table .entry)) .delegations))) ⌝ }
 {
-    let mut at = from;
+    let mut written = Written {
+        count: 0,
+        end: from,
+    };
     let mut i = 0;
     while i < delegations.len() {
-        at = write_delegation(table, keys, names, accesses, delegations, sheet, i, out, at);
+        written = write_delegation(
+            table,
+            keys,
+            names,
+            accesses,
+            delegations,
+            sheet,
+            i,
+            out,
+            written,
+        );
         i = i + 1;
     }
-    at
+    written
+}
+
+// Writes the section of the delegations that are kept at the place `at`, and returns the place after it.
+pub fn write_delegation_section(
+    table: &[u8],
+    keys: &[u32],
+    names: &[u32],
+    accesses: &[u16],
+    delegations: &[u16],
+    sheet: &[u32],
+    out: &mut [u8],
+    at: usize,
+) -> usize
+    requires { ⌜ Ready (now table) (now keys) (now names) (now accesses) (now delegations) (now sheet)
+        × (at + length (sectionBytes keyDelegationBytes (keyTableAt (now table) .delegations)) ≤ length (now out)) ⌝ }
+    ensures { λ r. ⌜ (r ≡ at + length (sectionBytes keyDelegationBytes (keyTableAt (now (table .entry)) .delegations)))
+        × (now (out .exit) ≡ placed (now (out .entry)) at (sectionBytes keyDelegationBytes (keyTableAt (now (table .entry)) .delegations))) ⌝ }
+{
+    let written = write_delegations(
+        table,
+        keys,
+        names,
+        accesses,
+        delegations,
+        sheet,
+        out,
+        at + 1,
+    );
+    put_count(out, at, written)
 }

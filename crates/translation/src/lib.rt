@@ -9,10 +9,8 @@ ghost use Rattle.sheet.specs.Listings.{Known};
 ghost use Rattle.matching.specs.Matching.{Held};
 ghost use Rattle.translation.specs.Becoming.{Ready, keyTableAt};
 ghost use Rattle.translation.specs.Promise.{Answers};
-use crate::accesses::count_accesses;
-use crate::accesses::write_accesses;
-use crate::delegations::count_delegations;
-use crate::delegations::write_delegations;
+use crate::accesses::write_access_section;
+use crate::delegations::write_delegation_section;
 use records::faults::Fault;
 use sheet::filling::fill;
 use table::Loaded;
@@ -20,6 +18,7 @@ use table::load_index;
 
 pub mod accesses;
 pub mod delegations;
+pub mod sections;
 
 pub const MOST_KEY_TABLE: usize = 16384;
 
@@ -43,12 +42,8 @@ fn write_key_table(
     ensures { λ r. ⌜ (r ≡ length (keyTableBytes (keyTableAt (now (table .entry))))) × (now (out .exit) ≡ placed (now (out .entry)) 0 (keyTableBytes (keyTableAt (now (table .entry))))) ⌝ }
 {
     let at1 = wire::write(out, 0);
-    let listed = count_accesses(table, keys, names, accesses, delegations, sheet);
-    let at2 = wire::put(out, at1, listed as u32);
-    let at3 = write_accesses(table, keys, names, accesses, delegations, sheet, out, at2);
-    let handed = count_delegations(table, keys, names, accesses, delegations, sheet);
-    let at4 = wire::put(out, at3, handed as u32);
-    write_delegations(table, keys, names, accesses, delegations, sheet, out, at4)
+    let at2 = write_access_section(table, keys, names, accesses, delegations, sheet, out, at1);
+    write_delegation_section(table, keys, names, accesses, delegations, sheet, out, at2)
 }
 
 // Translates a table that was found good, by a sheet of its own.
