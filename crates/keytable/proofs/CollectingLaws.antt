@@ -14,10 +14,9 @@ use Rattle.rules.specs.Tables.{Asked}
 use Rattle.rules.specs.KeyTables.{KeyAccess, KeyDelegation, KeyTable, KeyRequest, keySetting}
 use Rattle.rules.specs.declared.Key.{Key}
 use Rattle.reach.specs.Edges.{froms, tos, depthsOf}
-use Rattle.keytable.specs.Loading.{Known}
+use Rattle.keytable.specs.Keeping.{Known}
 use Rattle.keytable.specs.Nodes.{Empty, IsNode, HasNode, Apart, Nodes, Grown}
 use Rattle.keytable.specs.Matching.{WriterHas, EdgeTurn, drawn, left, CodeTurn, given, enough, Writers, Edge, Drawn, Given, Matched, DrawnOf}
-use Rattle.keytable.specs.declared.KeySections.{KeySections}
 use Rattle.keytable.proofs.RowsLaws.{longer, entry-before, entry-last}
 use Rattle.keytable.proofs.NodesLaws.{first-node}
 use Rattle.keytable.proofs.MatchingLaws.{one-node, for-wrote, wrote-for, for-root, root-for}
@@ -188,8 +187,8 @@ module _ (K : KeyTable) (q : Asked Key) where
 
 -- ---- all of them
 -- There are at most as many nodes as delegations, and the subject's.
-pub nodes-few : (s : List ℕ) (x : KeySections) (one n : ℕ) → Known s x → one ≤ 1 → n ≤ one + x .delegations .count → n ≤ suc mostDelegations
-nodes-few s x one n w h g = omega (arith, h, g, w .delegations .counted, w .good .fewDelegations)
+pub nodes-few : (s : List ℕ) (q : Asked Key) (accesses delegations : List ℕ) (one n : ℕ) → Known s q accesses delegations → one ≤ 1 → n ≤ one + length delegations → n ≤ suc mostDelegations
+nodes-few s q accesses delegations one n w h g = omega (arith, h, g, w .delegations .counted, w .good .fewDelegations)
 
 pub first-few : (row : List ℕ) (n most m : ℕ) → n ≤ most → most ≤ m → length (take n row) ≤ m
 first-few row n most m h g = omega (arith, length-take n row)

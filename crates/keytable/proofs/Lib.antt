@@ -2,7 +2,7 @@
 pub mod AnswersLaws
 pub mod LoadingLaws
 pub mod KnownLaws
-pub mod WalkingLaws
+pub mod SiftingLaws
 pub mod RowsLaws
 pub mod NodesLaws
 pub mod MatchingLaws

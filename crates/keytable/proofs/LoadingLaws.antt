@@ -2,6 +2,7 @@
 use mathlib.Core.Path.{_≡_, sym, _∙_, ap}
 use mathlib.Core.List.{List}
 use Prim.Native.Nat.{ℕ, _<_, _≤_}
+use native.Mathlib.Omega.{arith}
 use lib.ListN.{length}
 use Rattle.rules.specs.Ranges.{mostAccesses, mostDelegations}
 use Rattle.rules.specs.KeyTables.{KeyAccess, KeyDelegation}
@@ -19,17 +20,26 @@ use Rattle.table.specs.declared.loading.Section.{Section}
 use Rattle.table.specs.declared.loading.SectionRead.{SectionRead}
 use Rattle.table.specs.declared.loading.SectionRead.the-variants as asSection
 use Rattle.table.proofs.SectionsLaws.{section-got, section-told, all-long, all-bad, all-got, all-more}
+use Rattle.table.proofs.LoadingLaws.{Besides, ill, well}
 use Rattle.table.proofs.KeyTableForm.{keyAccessesOf, keyDelegationsOf}
 use Rattle.keytable.specs.Loading.{keyLoadedOf}
 use Rattle.keytable.specs.declared.KeyLoaded.{KeyLoaded}
 use Rattle.keytable.specs.declared.KeyLoaded.the-variants as loaded
 
-module _ (s : List ℕ) where
+loaded-apart : (f : Fault) (l : KeyLaid) (at : ℕ) → loaded.Bad f ≡ keyLoadedOf (got l at) → ⊥
+loaded-apart f l at e = let z : _≡_ {A = ℕ} 0 1 = cc in absurd (omega arith)
+
+module _ (s : List ℕ) (K : KeyLaid → Type 0) where
+  -- What is answered, with what is kept if all is well.
   abbrev pub Loads : KeyLoaded → Type 0
-  Loads r = r ≡ keyLoadedOf (readKeyTable s)
+  Loads r = Besides keyLoadedOf K r (readKeyTable s)
 
   failed : (e : Fault) → readKeyTable s ≡ bad e → Loads (loaded.Bad e)
-  failed e q = ap keyLoadedOf (sym q)
+  failed e q = ill keyLoadedOf K (loaded.Bad e) (readKeyTable s) (loaded-apart e) (ap keyLoadedOf (sym q))
+
+  -- An answer that is this fault.
+  pub told-fault : (r : KeyLoaded) (e : Fault) → r ≡ loaded.Bad e → Loads (loaded.Bad e) → Loads r
+  told-fault r e q w = (q ∙ w .0, w .1)
 
   pub table-long : (e : Fault) → mostKeyTable < length s → e ≡ faultAt kind.Long 0 → Loads (loaded.Bad e)
   unfolding readKeyTable
@@ -79,6 +89,10 @@ module _ (s : List ℕ) where
             unfolding readKeyTable
             table-more f n q = failed f (all-more keyTableFields mostKeyTable s h laid end all-read n ∙ ap bad (sym q))
 
-            pub table-found : end ≡ length s → Loads (loaded.Good (record { accesses = x₁; delegations = x₂ }))
+            pub table-found : ((p : Part KeyAccess) (d : Part KeyDelegation) → section mostAccesses keyAccessesOf s a ≡ got p b → section mostDelegations keyDelegationsOf s b ≡ got d end
+                → K (record { accesses = p; delegations = d })) → end ≡ length s → Loads (loaded.Good (record { accesses = x₁; delegations = x₂ }))
             unfolding readKeyTable laid
-            table-found n = rw (sym (first .2), sym (second .2)) (ap keyLoadedOf (sym (all-got keyTableFields mostKeyTable s h laid end all-read n)))
+            table-found k n =
+                let g = all-got keyTableFields mostKeyTable s h laid end all-read n in
+                well keyLoadedOf K (loaded.Good (record { accesses = x₁; delegations = x₂ })) (readKeyTable s) laid end g (k (first .0) (second .0) (first .1) (second .1))
+                (rw (sym (first .2), sym (second .2)) (ap keyLoadedOf (sym g)))

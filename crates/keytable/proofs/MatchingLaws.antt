@@ -4,6 +4,8 @@ use mathlib.Core.Bool.{Bool, true, false, not}
 use mathlib.Core.List.{List}
 use Prim.Native.Nat.{ℕ, suc, _+_, _<_, _≤_}
 use native.Mathlib.Omega.{arith}
+use native.Mathlib.Decide.{ℕ-discrete}
+use borrow.Author.Tests.{eq-eqb, ne-eqb}
 use lib.ListN.{length, take, set}
 use Rattle.rules.specs.Lists.{At, _▷_}
 use Rattle.rules.specs.Depths.{top}
@@ -14,8 +16,9 @@ use Rattle.rules.specs.declared.Key.{Key}
 use Rattle.rules.proofs.ListsLaws.{at-one}
 use Rattle.reach.specs.Edges.{edgeOf}
 use Rattle.reach.proofs.EdgesLaws.{froms-more, tos-more, depths-more}
+use Rattle.keytable.specs.Keeping.{isAsked}
 use Rattle.keytable.specs.Nodes.{IsNode, HasNode, Apart, FindsNode, node, nobody}
-use Rattle.keytable.specs.Matching.{IsFor, Asks, asked, other, EdgeTurnOf, drawn, left, CodeTurn, given, enough}
+use Rattle.keytable.specs.Matching.{IsFor, EdgeTurnOf, drawn, left, CodeTurn, given, enough}
 use Rattle.keytable.specs.declared.nodes.NodeFound.{NodeFound}
 use Rattle.keytable.specs.declared.nodes.NodeFound.the-variants as found
 use Rattle.keytable.proofs.RowsLaws.{written-last}
@@ -34,25 +37,40 @@ is-so {b = false} e = let z : _≡_ {A = ℕ} 0 1 = cc in absurd (omega arith)
 
 -- ---- whether a record is for what is asked
 module _ (q : Asked Key) (owner : Key) (object right : ℕ) where
-  pub asks-all : owner .0 ≡ q .owner .0 → object ≡ q .object → right ≡ q .right → Asks q owner object right true
-  asks-all a b c = asked (record { sameOwner = same-key a; sameObject = b; sameRight = c })
+  pub asks-all : owner .0 ≡ q .owner .0 → object ≡ q .object → right ≡ q .right → true ≡ isAsked q owner object right
+  unfolding isAsked
+  asks-all a b c = rw (eq-eqb (owner .0) (q .owner .0) a, eq-eqb object (q .object) b, eq-eqb right (q .right) c) refl
 
-  pub other-owner : (owner .0 ≡ q .owner .0 → ⊥) → Asks q owner object right false
-  other-owner n = other (λ w. n (ap (λ (k : Key). k .0) (w .sameOwner)))
+  pub other-owner : (owner .0 ≡ q .owner .0 → ⊥) → false ≡ isAsked q owner object right
+  unfolding isAsked
+  other-owner n = rw (ne-eqb (owner .0) (q .owner .0) n) refl
 
-  pub other-object : (object ≡ q .object → ⊥) → Asks q owner object right false
-  other-object n = other (λ w. n (w .sameObject))
+  pub other-object : owner .0 ≡ q .owner .0 → (object ≡ q .object → ⊥) → false ≡ isAsked q owner object right
+  unfolding isAsked
+  other-object a n = rw (eq-eqb (owner .0) (q .owner .0) a, ne-eqb object (q .object) n) refl
 
-  pub other-right : (right ≡ q .right → ⊥) → Asks q owner object right false
-  other-right n = other (λ w. n (w .sameRight))
+  pub other-right : owner .0 ≡ q .owner .0 → object ≡ q .object → (right ≡ q .right → ⊥) → false ≡ isAsked q owner object right
+  unfolding isAsked
+  other-right a b n = rw (eq-eqb (owner .0) (q .owner .0) a, eq-eqb object (q .object) b, ne-eqb right (q .right) n) refl
 
-  pub asks-yes : {b : Bool} → Asks q owner object right b → b ≡ true → IsFor q owner object right
-  asks-yes (asked w) e = w
-  asks-yes (other n) e = let z : _≡_ {A = ℕ} 0 1 = cc in absurd (omega arith)
+  pub for-asked : IsFor q owner object right → true ≡ isAsked q owner object right
+  for-asked w = asks-all (ap (λ (k : Key). k .0) (w .sameOwner)) (w .sameObject) (w .sameRight)
 
-  pub asks-no : {b : Bool} → Asks q owner object right b → b ≡ false → IsFor q owner object right → ⊥
-  asks-no (asked w) e = let z : _≡_ {A = ℕ} 0 1 = cc in absurd (omega arith)
-  asks-no (other n) e = n
+  pub asks-yes : {b : Bool} → b ≡ isAsked q owner object right → b ≡ true → IsFor q owner object right
+  unfolding isAsked
+  asks-yes e h = go (ℕ-discrete (owner .0) (q .owner .0)) (ℕ-discrete object (q .object)) (ℕ-discrete right (q .right))
+    where
+      never : false ≡ isAsked q owner object right → IsFor q owner object right
+      never f = let g : true ≡ false = sym h ∙ e ∙ sym f in let z : _≡_ {A = ℕ} 0 1 = cc g in absurd (omega arith)
+
+      go : Dec (owner .0 ≡ q .owner .0) → Dec (object ≡ q .object) → Dec (right ≡ q .right) → IsFor q owner object right
+      go (yes a) (yes b) (yes c) = record { sameOwner = same-key a; sameObject = b; sameRight = c }
+      go (yes a) (yes b) (no n) = never (other-right a b n)
+      go (yes a) (no n) _ = never (other-object a n)
+      go (no n) _ _ = never (other-owner n)
+
+  pub asks-no : {b : Bool} → b ≡ isAsked q owner object right → b ≡ false → IsFor q owner object right → ⊥
+  asks-no e h w = let g : true ≡ false = for-asked w ∙ sym e ∙ h in let z : _≡_ {A = ℕ} 0 1 = cc g in absurd (omega arith)
 
 -- ---- the records that match are those that the rules know
 module _ (K : KeyTable) (q : Asked Key) where
@@ -113,7 +131,7 @@ module _ (q : Asked Key) (nodes : List ℕ) (x : KeyDelegation) (edges : List �
   abbrev pub EdgeTaken : List ℕ → ℕ → Type 0
   EdgeTaken edges′ r = EdgeTurnOf q nodes x (take m edges) (take r edges′)
 
-  module _ (b : Bool) (is-asked : Asks q (x .owner) (x .object) (x .right) b) where
+  module _ (b : Bool) (is-asked : b ≡ isAsked q (x .owner) (x .object) (x .right)) where
     pub edge-other : b ≡ false → EdgeTaken edges m
     edge-other e = left (λ w u v. asks-no q (x .owner) (x .object) (x .right) is-asked e w)
 
@@ -146,7 +164,7 @@ module _ (q : Asked Key) (nodes : List ℕ) (x : KeyDelegation) (edges : List �
               (drawn (asks-yes q (x .owner) (x .object) (x .right) is-asked e) from-node to-node))
 
 -- ---- one access record, as code takes it
-module _ (q : Asked Key) (nodes : List ℕ) (x : KeyAccess) (best : List ℕ) (b : Bool) (is : Asks q (x .owner) (x .object) (x .right) b) where
+module _ (q : Asked Key) (nodes : List ℕ) (x : KeyAccess) (best : List ℕ) (b : Bool) (is : b ≡ isAsked q (x .owner) (x .object) (x .right)) where
   pub code-other : b ≡ false → CodeTurn q nodes x best best
   code-other e = enough (λ v w i. absurd (asks-no q (x .owner) (x .object) (x .right) is e w))
 

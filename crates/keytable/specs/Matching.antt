@@ -1,6 +1,5 @@
 -- The records that match a request, as edges between nodes: each node stands for a key, each edge for a delegation.
 use mathlib.Core.Path.{_≡_}
-use mathlib.Core.Bool.{Bool, true, false}
 use mathlib.Core.List.{List}
 use Prim.Native.Nat.{ℕ, suc, _<_, _≤_}
 use lib.ListN.{length, set}
@@ -29,11 +28,6 @@ AccessMatches q x = IsFor q (x .owner) (x .object) (x .right)
 
 abbrev pub DelegationMatches : Asked Key → KeyDelegation → Type 0
 DelegationMatches q x = IsFor q (x .owner) (x .object) (x .right)
-
--- Whether it is.
-pub data Asks (q : Asked Key) (owner : Key) (object right : ℕ) : Bool → Type 0 where
-  asked : IsFor q owner object right → Asks q owner object right true
-  other : (IsFor q owner object right → ⊥) → Asks q owner object right false
 
 -- ---- one record
 module _ (q : Asked Key) (nodes : List ℕ) where

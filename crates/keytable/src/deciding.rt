@@ -8,11 +8,11 @@ ghost use Rattle.rules.specs.Verdicts.{DecidesByKeys};
 ghost use Rattle.rules.specs.Greatest.{verdictOf};
 ghost use Rattle.reach.specs.Edges.{froms, tos, depthsOf};
 ghost use Rattle.reach.specs.Reached.{Edges};
-ghost use Rattle.keytable.specs.Loading.{keyTableAt, Known};
+ghost use Rattle.keytable.specs.Loading.{keyTableAt};
+ghost use Rattle.keytable.specs.Keeping.{Known};
 ghost use Rattle.keytable.specs.Matching.{keyRequestOf};
 ghost use Rattle.keytable.specs.Settling.{Codes, Settles, answerOf};
 use crate::KeyAnswer;
-use crate::KeySections;
 use crate::collecting::collect;
 use reach::reach;
 use records::requests::KeyRequest;
@@ -30,14 +30,14 @@ fn first_code(edges: &[u32], best: &mut [u8]) -> u8
 }
 
 // The code of the greatest depth that the subject has.
-pub fn greatest_code(table: &[u8], sections: KeySections, request: KeyRequest) -> u8
-    requires { ⌜ Known (now table) sections ⌝ }
+pub fn greatest_code(table: &[u8], accesses: &[u16], delegations: &[u16], request: KeyRequest) -> u8
+    requires { ⌜ Known (now table) (keyRequestOf request .asked) (now accesses) (now delegations) ⌝ }
     ensures decides { λ r. ⌜ DecidesByKeys (keyTableAt (now (table .entry))) (keyRequestOf request) (verdictOf r) ⌝ }
     ensures most { λ r. ⌜ r ≤ suc top ⌝ }
 {
     let mut edges = [0; 512];
     let mut best = [0; 513];
-    let m = collect(table, sections, request, &mut edges, &mut best);
+    let m = collect(table, accesses, delegations, request, &mut edges, &mut best);
     first_code(&edges[..m], &mut best)
 }
 

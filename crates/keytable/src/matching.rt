@@ -1,10 +1,12 @@
 // One record against a request: a node for a writer, an edge for a delegation, a code for an access record.
+ghost use mathlib.Core.Path.{_≡_};
 ghost use Prim.Native.Nat.{_+_, _<_, _≤_};
 ghost use lib.ListN.{length, take};
 ghost use Rattle.rules.specs.Depths.{top};
 ghost use Rattle.records.specs.KeyRecords.{keyAccessOf, keyDelegationOf};
+ghost use Rattle.keytable.specs.Keeping.{isAsked};
 ghost use Rattle.keytable.specs.Nodes.{Nodes, Grown};
-ghost use Rattle.keytable.specs.Matching.{keyRequestOf, Asks, WriterHas, EdgeTurnOf, CodeTurn};
+ghost use Rattle.keytable.specs.Matching.{keyRequestOf, WriterHas, EdgeTurnOf, CodeTurn};
 use crate::nodes::NodeFound;
 use crate::nodes::add_node;
 use crate::nodes::find_node;
@@ -16,8 +18,8 @@ use records::requests::KeyRequest;
 use rules::Key;
 
 // Whether a record for this owner and use is for what is asked.
-fn is_asked(request: KeyRequest, owner: Key, wanted: Use) -> bool
-    ensures { λ r. ⌜ Asks (keyRequestOf request .asked) owner (wanted .object) (wanted .right) r ⌝ }
+pub fn is_asked(request: KeyRequest, owner: Key, wanted: Use) -> bool
+    ensures { λ r. ⌜ r ≡ isAsked (keyRequestOf request .asked) owner (wanted .object) (wanted .right) ⌝ }
 {
     let asked = request.owner;
     let usage = request.wanted;

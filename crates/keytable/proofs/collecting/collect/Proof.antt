@@ -31,13 +31,13 @@ slice-aggregate-collect-nodes-3 : tie.Need-slice-aggregate-collect-nodes-3
 slice-aggregate-collect-nodes-3 c = search needs
 
 collect-nodes-requires : tie.Need-collect-nodes-requires
-collect-nodes-requires c κs = search needs
+collect-nodes-requires c κs = (c .before .before .before .before .before .before .before .before .before .before .before .before .before .before .before .before .pre .0 .delegations, c .before .before .before .before .before .before .add-node .ensures .0 .are, omega (arith, c .before .before .before .before .before .before .before .before .before .before .before .before .before .before .before .before .pre .0 .delegations .counted, c .before .before .before .before .before .before .before .before .before .before .before .before .before .before .before .before .pre .0 .good .fewDelegations, c .before .before .before .before .before .before .add-node .ensures .1 .1, c .before .before .before .before .before .keys2 .given), omega (arith, c .before .before .before .before .before .before .before .before .before .before .before .before .before .before .before .before .pre .0 .delegations .counted, c .before .before .before .before .before .before .before .before .before .before .before .before .before .before .before .before .pre .0 .good .fewDelegations, c .before .before .before .before .before .before .add-node .ensures .1 .1, c .before .before .before .nexts2 .given), omega (arith, c .before .before .before .before .before .before .before .before .before .before .before .before .before .before .before .before .pre .0 .delegations .counted, c .before .before .before .before .before .before .before .before .before .before .before .before .before .before .before .before .pre .0 .good .fewDelegations, c .before .before .before .before .before .before .add-node .ensures .1 .1))
 
 array-share-prefix-keys : tie.Need-array-share-prefix-keys
-array-share-prefix-keys c = search needs
+array-share-prefix-keys c = omega (arith, c .before .before .keys4 .given, (nodes-few _ _ _ _ _ _ (c .before .before .before .before .before .before .before .before .before .before .before .before .before .before .before .before .before .before .before .before .pre .0) (c .before .before .before .before .before .before .before .before .before .before .add-node .ensures .1 .1) (c .before .before .before .collect-nodes .ensures .1 .1)))
 
 slice-aggregate-collect-codes : tie.Need-slice-aggregate-collect-codes
-slice-aggregate-collect-codes c = sym (length-take-le _ (c .before .before .before .before .collect-nodes .last .1 .1 .1 .0) (omega (arith, c .before .before .before .keys4 .given, nodes-few _ _ _ _ (c .before .before .before .before .before .before .before .before .before .before .before .before .before .before .before .before .before .before .before .before .before .pre .0) (c .before .before .before .before .before .before .before .before .before .before .before .add-node .ensures .1 .1) (c .before .before .before .before .collect-nodes .ensures .1 .1))))
+slice-aggregate-collect-codes c = sym (length-take-le _ (c .before .before .before .before .collect-nodes .last .1 .1 .1 .0) (omega (arith, c .before .before .before .keys4 .given, (nodes-few _ _ _ _ _ _ (c .before .before .before .before .before .before .before .before .before .before .before .before .before .before .before .before .before .before .before .before .before .pre .0) (c .before .before .before .before .before .before .before .before .before .before .before .add-node .ensures .1 .1) (c .before .before .before .before .collect-nodes .ensures .1 .1)))))
 
 slice-aggregate-collect-codes-2 : tie.Need-slice-aggregate-collect-codes-2
 slice-aggregate-collect-codes-2 c = search needs
@@ -46,13 +46,13 @@ slice-aggregate-collect-codes-3 : tie.Need-slice-aggregate-collect-codes-3
 slice-aggregate-collect-codes-3 c = search needs
 
 collect-codes-requires : tie.Need-collect-codes-requires
-collect-codes-requires c κs = (c .before .before .before .before .before .before .before .before .before .before .before .before .before .before .before .before .before .before .before .before .before .before .before .before .pre .0 .accesses, c .before .before .before .before .before .before .before .before .before .before .before .before .before .before .before .before .before .before .before .before .before .before .before .before .pre .0 .good, c .before .before .before .before .before .before .before .collect-nodes .ensures .0 .are, first-few (c .before .before .before .before .before .before .before .collect-nodes .last .1 .1 .1 .0) (c .before .before .before .before .before .before .before .collect-nodes .result) _ _ (nodes-few _ _ _ _ (c .before .before .before .before .before .before .before .before .before .before .before .before .before .before .before .before .before .before .before .before .before .before .before .before .pre .0) (c .before .before .before .before .before .before .before .before .before .before .before .before .before .before .add-node .ensures .1 .1) (c .before .before .before .before .before .before .before .collect-nodes .ensures .1 .1)) (c .before .before .before .before .before .before .before .before .before .before .before .before .before .before .before .before .before .before .before .before .before .before .before .before .pre .2), c .before .before .before .before .before .before .before .before .before .before .before .before .before .before .before .before .before .before .before .before .before .before .before .before .pre .1)
+collect-codes-requires c κs = (c .before .before .before .before .before .before .before .before .before .before .before .before .before .before .before .before .before .before .before .before .before .before .before .before .pre .0 .accesses, c .before .before .before .before .before .before .before .before .before .before .before .before .before .before .before .before .before .before .before .before .before .before .before .before .pre .0 .good, c .before .before .before .before .before .before .before .collect-nodes .ensures .0 .are, first-few (c .before .before .before .before .before .before .before .collect-nodes .last .1 .1 .1 .0) (c .before .before .before .before .before .before .before .collect-nodes .result) _ _ (nodes-few _ _ _ _ _ _ (c .before .before .before .before .before .before .before .before .before .before .before .before .before .before .before .before .before .before .before .before .before .before .before .before .pre .0) (c .before .before .before .before .before .before .before .before .before .before .before .before .before .before .add-node .ensures .1 .1) (c .before .before .before .before .before .before .before .collect-nodes .ensures .1 .1)) (c .before .before .before .before .before .before .before .before .before .before .before .before .before .before .before .before .before .before .before .before .before .before .before .before .pre .2), c .before .before .before .before .before .before .before .before .before .before .before .before .before .before .before .before .before .before .before .before .before .before .before .before .pre .1)
 
 array-share-prefix-keys-2 : tie.Need-array-share-prefix-keys-2
-array-share-prefix-keys-2 c = omega (arith, c .before .before .before .before .before .before .before .before .before .keys4 .given, nodes-few _ _ _ _ (c .before .before .before .before .before .before .before .before .before .before .before .before .before .before .before .before .before .before .before .before .before .before .before .before .before .before .before .pre .0) (c .before .before .before .before .before .before .before .before .before .before .before .before .before .before .before .before .before .add-node .ensures .1 .1) (c .before .before .before .before .before .before .before .before .before .before .collect-nodes .ensures .1 .1))
+array-share-prefix-keys-2 c = omega (arith, c .before .before .before .before .before .before .before .before .before .keys4 .given, (nodes-few _ _ _ _ _ _ (c .before .before .before .before .before .before .before .before .before .before .before .before .before .before .before .before .before .before .before .before .before .before .before .before .before .before .before .pre .0) (c .before .before .before .before .before .before .before .before .before .before .before .before .before .before .before .before .before .add-node .ensures .1 .1) (c .before .before .before .before .before .before .before .before .before .before .collect-nodes .ensures .1 .1)))
 
 slice-aggregate-collect-edges : tie.Need-slice-aggregate-collect-edges
-slice-aggregate-collect-edges c = sym (length-take-le _ (c .before .before .before .before .before .before .before .before .before .before .before .collect-nodes .last .1 .1 .1 .0) (omega (arith, c .before .before .before .before .before .before .before .before .before .before .keys4 .given, nodes-few _ _ _ _ (c .before .before .before .before .before .before .before .before .before .before .before .before .before .before .before .before .before .before .before .before .before .before .before .before .before .before .before .before .pre .0) (c .before .before .before .before .before .before .before .before .before .before .before .before .before .before .before .before .before .before .add-node .ensures .1 .1) (c .before .before .before .before .before .before .before .before .before .before .before .collect-nodes .ensures .1 .1))))
+slice-aggregate-collect-edges c = sym (length-take-le _ (c .before .before .before .before .before .before .before .before .before .before .before .collect-nodes .last .1 .1 .1 .0) (omega (arith, c .before .before .before .before .before .before .before .before .before .before .keys4 .given, (nodes-few _ _ _ _ _ _ (c .before .before .before .before .before .before .before .before .before .before .before .before .before .before .before .before .before .before .before .before .before .before .before .before .before .before .before .before .pre .0) (c .before .before .before .before .before .before .before .before .before .before .before .before .before .before .before .before .before .before .add-node .ensures .1 .1) (c .before .before .before .before .before .before .before .before .before .before .before .collect-nodes .ensures .1 .1)))))
 
 slice-aggregate-collect-edges-2 : tie.Need-slice-aggregate-collect-edges-2
 slice-aggregate-collect-edges-2 c = search needs
@@ -61,7 +61,7 @@ slice-aggregate-collect-edges-3 : tie.Need-slice-aggregate-collect-edges-3
 slice-aggregate-collect-edges-3 c = search needs
 
 collect-edges-requires : tie.Need-collect-edges-requires
-collect-edges-requires c κs = (c .before .before .before .before .before .before .before .before .before .before .before .before .before .before .before .before .before .before .before .before .before .before .before .before .before .before .before .before .before .before .before .pre .0 .delegations, c .before .before .before .before .before .before .before .before .before .before .before .before .before .before .before .before .before .before .before .before .before .before .before .before .before .before .before .before .before .before .before .pre .0 .good, c .before .before .before .before .before .before .before .before .before .before .before .before .before .before .collect-nodes .ensures .0 .are, first-few (c .before .before .before .before .before .before .before .before .before .before .before .before .before .before .collect-nodes .last .1 .1 .1 .0) (c .before .before .before .before .before .before .before .before .before .before .before .before .before .before .collect-nodes .result) _ _ (nodes-few _ _ _ _ (c .before .before .before .before .before .before .before .before .before .before .before .before .before .before .before .before .before .before .before .before .before .before .before .before .before .before .before .before .before .before .before .pre .0) (c .before .before .before .before .before .before .before .before .before .before .before .before .before .before .before .before .before .before .before .before .before .add-node .ensures .1 .1) (c .before .before .before .before .before .before .before .before .before .before .before .before .before .before .collect-nodes .ensures .1 .1)) (omega arith), omega (arith, c .before .before .before .before .before .before .before .before .before .before .before .before .before .before .before .before .before .before .before .before .before .before .before .before .before .before .before .before .before .before .before .pre .3, c .before .before .before .before .before .before .before .before .before .before .before .before .before .before .before .before .before .before .before .before .before .before .before .before .before .before .before .before .before .before .before .pre .0 .delegations .counted, c .before .before .before .before .before .before .before .before .before .before .before .before .before .before .before .before .before .before .before .before .before .before .before .before .before .before .before .before .before .before .before .pre .0 .good .fewDelegations))
+collect-edges-requires c κs = (c .before .before .before .before .before .before .before .before .before .before .before .before .before .before .before .before .before .before .before .before .before .before .before .before .before .before .before .before .before .before .before .pre .0 .delegations, c .before .before .before .before .before .before .before .before .before .before .before .before .before .before .before .before .before .before .before .before .before .before .before .before .before .before .before .before .before .before .before .pre .0 .good, c .before .before .before .before .before .before .before .before .before .before .before .before .before .before .collect-nodes .ensures .0 .are, first-few (c .before .before .before .before .before .before .before .before .before .before .before .before .before .before .collect-nodes .last .1 .1 .1 .0) (c .before .before .before .before .before .before .before .before .before .before .before .before .before .before .collect-nodes .result) _ _ (nodes-few _ _ _ _ _ _ (c .before .before .before .before .before .before .before .before .before .before .before .before .before .before .before .before .before .before .before .before .before .before .before .before .before .before .before .before .before .before .before .pre .0) (c .before .before .before .before .before .before .before .before .before .before .before .before .before .before .before .before .before .before .before .before .before .add-node .ensures .1 .1) (c .before .before .before .before .before .before .before .before .before .before .before .before .before .before .collect-nodes .ensures .1 .1)) (omega arith), omega (arith, c .before .before .before .before .before .before .before .before .before .before .before .before .before .before .before .before .before .before .before .before .before .before .before .before .before .before .before .before .before .before .before .pre .3, c .before .before .before .before .before .before .before .before .before .before .before .before .before .before .before .before .before .before .before .before .before .before .before .before .before .before .before .before .before .before .before .pre .0 .delegations .counted, c .before .before .before .before .before .before .before .before .before .before .before .before .before .before .before .before .before .before .before .before .before .before .before .before .before .before .before .before .before .before .before .pre .0 .good .fewDelegations))
 
 same-length : tie.Need-same-length
 same-length c = search needs
@@ -70,7 +70,7 @@ same-length-2 : tie.Need-same-length-2
 same-length-2 c = search needs
 
 returns : tie.Need-returns
-returns c = (all-matched _ _ (c .before .before .before .before .before .before .before .before .before .before .before .before .before .before .before .before .before .before .before .before .before .before .before .before .add-node .last .0) (c .before .before .before .before .before .before .before .before .before .before .before .before .before .before .before .before .before .collect-nodes .last .1 .1 .1 .0) _ _ (c .before .before .before .before .before .before .before .before .before .before .before .before .before .before .before .before .before .before .before .before .before .before .before .before .add-node .result) (c .before .before .before .before .before .before .before .before .before .before .before .before .before .before .before .before .before .collect-nodes .result) (c .before .before .before .before .before .before .before .before .before .before .before .before .before .before .before .before .before .before .before .before .before .before .before .before .add-node .ensures .1 .1) (c .before .before .before .before .before .before .before .before .before .before .before .before .before .before .before .before .before .before .before .before .before .before .before .before .add-node .ensures .1 .0) (c .before .before .before .before .before .before .before .before .before .before .before .before .before .before .before .before .before .collect-nodes .ensures .0) (c .before .before .before .before .before .before .before .before .before .before .before .before .before .before .before .before .before .collect-nodes .ensures .1 .0) _ _ _ (c .before .before .before .before .before .before .before .before .before .collect-codes .last .1 .1 .1 .1 .1 .1 .0) (omega (arith, c .before .before .before .before .before .before .before .before .best .given, first-few (c .before .before .before .before .before .before .before .before .before .before .before .before .before .before .before .before .before .collect-nodes .last .1 .1 .1 .0) (c .before .before .before .before .before .before .before .before .before .before .before .before .before .before .before .before .before .collect-nodes .result) _ _ (nodes-few _ _ _ _ (c .before .before .before .before .before .before .before .before .before .before .before .before .before .before .before .before .before .before .before .before .before .before .before .before .before .before .before .before .before .before .before .before .before .before .pre .0) (c .before .before .before .before .before .before .before .before .before .before .before .before .before .before .before .before .before .before .before .before .before .before .before .before .add-node .ensures .1 .1) (c .before .before .before .before .before .before .before .before .before .before .before .before .before .before .before .before .before .collect-nodes .ensures .1 .1)) (c .before .before .before .before .before .before .before .before .before .before .before .before .before .before .before .before .before .before .before .before .before .before .before .before .before .before .before .before .before .before .before .before .before .before .pre .2))) (c .before .before .collect-edges .ensures .0) (c .before .before .before .before .before .before .before .before .before .collect-codes .ensures), omega (arith, c .before .before .collect-edges .ensures .1, c .before .before .before .before .before .before .before .before .before .before .before .before .before .before .before .before .before .before .before .before .before .before .before .before .before .before .before .before .before .before .before .before .before .before .pre .0 .delegations .counted, c .before .before .before .before .before .before .before .before .before .before .before .before .before .before .before .before .before .before .before .before .before .before .before .before .before .before .before .before .before .before .before .before .before .before .pre .0 .good .fewDelegations))
+returns c = (all-matched _ _ (c .before .before .before .before .before .before .before .before .before .before .before .before .before .before .before .before .before .before .before .before .before .before .before .before .add-node .last .0) (c .before .before .before .before .before .before .before .before .before .before .before .before .before .before .before .before .before .collect-nodes .last .1 .1 .1 .0) _ _ (c .before .before .before .before .before .before .before .before .before .before .before .before .before .before .before .before .before .before .before .before .before .before .before .before .add-node .result) (c .before .before .before .before .before .before .before .before .before .before .before .before .before .before .before .before .before .collect-nodes .result) (c .before .before .before .before .before .before .before .before .before .before .before .before .before .before .before .before .before .before .before .before .before .before .before .before .add-node .ensures .1 .1) (c .before .before .before .before .before .before .before .before .before .before .before .before .before .before .before .before .before .before .before .before .before .before .before .before .add-node .ensures .1 .0) (c .before .before .before .before .before .before .before .before .before .before .before .before .before .before .before .before .before .collect-nodes .ensures .0) (c .before .before .before .before .before .before .before .before .before .before .before .before .before .before .before .before .before .collect-nodes .ensures .1 .0) _ _ _ (c .before .before .before .before .before .before .before .before .before .collect-codes .last .1 .1 .1 .1 .1 .1 .0) (omega (arith, c .before .before .before .before .before .before .before .before .best .given, first-few (c .before .before .before .before .before .before .before .before .before .before .before .before .before .before .before .before .before .collect-nodes .last .1 .1 .1 .0) (c .before .before .before .before .before .before .before .before .before .before .before .before .before .before .before .before .before .collect-nodes .result) _ _ (nodes-few _ _ _ _ _ _ (c .before .before .before .before .before .before .before .before .before .before .before .before .before .before .before .before .before .before .before .before .before .before .before .before .before .before .before .before .before .before .before .before .before .before .pre .0) (c .before .before .before .before .before .before .before .before .before .before .before .before .before .before .before .before .before .before .before .before .before .before .before .before .add-node .ensures .1 .1) (c .before .before .before .before .before .before .before .before .before .before .before .before .before .before .before .before .before .collect-nodes .ensures .1 .1)) (c .before .before .before .before .before .before .before .before .before .before .before .before .before .before .before .before .before .before .before .before .before .before .before .before .before .before .before .before .before .before .before .before .before .before .pre .2))) (c .before .before .collect-edges .ensures .0) (c .before .before .before .before .before .before .before .before .before .collect-codes .ensures), omega (arith, c .before .before .collect-edges .ensures .1, c .before .before .before .before .before .before .before .before .before .before .before .before .before .before .before .before .before .before .before .before .before .before .before .before .before .before .before .before .before .before .before .before .before .before .pre .0 .delegations .counted, c .before .before .before .before .before .before .before .before .before .before .before .before .before .before .before .before .before .before .before .before .before .before .before .before .before .before .before .before .before .before .before .before .before .before .pre .0 .good .fewDelegations))
 
 pub collect-spec : {M : Type 1} → statement M
 collect-spec =

@@ -1,33 +1,41 @@
--- `collect_codes` goes through the access records, which are known to be good, and takes each.
+-- `collect_codes` goes through the places of the access records, of which each can be read, and takes each.
 use mathlib.Core.Path.{_≡_, refl, _∙_}
-use Prim.Native.Nat.{_-_}
+use Prim.Native.Nat.{_-_, _≤_}
 use native.Mathlib.Omega.{arith}
 use lib.ListN.{length}
-use Rattle.records.specs.KeyRecords.{keyAccessRecord}
 use Rattle.records.proofs.KeyRecordsForm.{key-access-walks}
-use Rattle.keytable.specs.Loading.{keyTableAt}
+use Rattle.keytable.specs.Keeping.{askedAt}
 use Rattle.keytable.specs.Matching.{keyRequestOf, Given}
 use Rattle.keytable.proofs.AnswersLaws.{access-got, access-bad}
-use Rattle.keytable.proofs.WalkingLaws.{Walking, walking-start, walking-fits, walking-at, walking-on, walking-well, walking-end}
+use Rattle.keytable.proofs.SiftingLaws.{placed-within, placed-at, placed-well, placed-end}
 use Rattle.keytable.proofs.CollectingLaws.{given-none, given-more, given-all}
 use borrow.Author.Needs.{needs}
 use Rattle.keytable.proofs.collecting.collect_codes.Statement.{statement}
 use Rattle.keytable.proofs.collecting.collect_codes.Tie as tie
 
 abbrev Inv-loop : tie.InvT-loop
-Inv-loop table request keys heads nexts best₀ count at₀ i₀ best at i = Walking keyAccessRecord key-access-walks table (keyTableAt table .accesses) count i at × Given (keyTableAt table) (keyRequestOf request .asked) keys i best × (length best ≡ length best₀)
+Inv-loop table places request keys heads nexts best₀ count i₀ best i = Given (askedAt table (keyRequestOf request .asked)) (keyRequestOf request .asked) keys i best × (i ≤ count) × (length best ≡ length best₀)
 
 abbrev μ-loop : tie.MeasureT-loop
-μ-loop table request keys heads nexts best₀ count at₀ i₀ best at i = count - i
+μ-loop table places request keys heads nexts best₀ count i₀ best i = count - i
 
 loop-holds : tie.Need-loop-holds Inv-loop μ-loop
-loop-holds c = (walking-start _ key-access-walks _ _ _ (c .before .before .before .before .before .pre .0), given-none _ _ _ _ (c .before .before .before .before .before .pre .4), refl)
+loop-holds c = (given-none _ _ _ _ (c .before .before .before .before .before .before .pre .4), omega arith, refl)
+
+mul-at : tie.Need-mul-at Inv-loop μ-loop
+mul-at c = omega (arith, c .loop-test .taken, c .before .before .before .before .before .before .before .before .good .1 .0)
+
+shared-slice-read-at : tie.Need-shared-slice-read-at Inv-loop μ-loop
+shared-slice-read-at c = omega (arith, c .before .loop-test .taken)
+
+cast-at : tie.Need-cast-at Inv-loop μ-loop
+cast-at c = omega (arith, c .shared-slice-known6 .given (c .before .before .loop .i))
 
 sub-read-key-access : tie.Need-sub-read-key-access Inv-loop μ-loop
-sub-read-key-access c = omega (arith, c .before .loop .inv .0 .within)
+sub-read-key-access c = omega (arith, placed-within _ key-access-walks _ _ _ _ (c .before .before .before .before .before .before .before .before .before .pre .0) _ (c .before .loop-test .taken))
 
 part-read-key-access-start : tie.Need-part-read-key-access-start Inv-loop μ-loop
-part-read-key-access-start c = omega (arith, c .before .loop .inv .0 .within)
+part-read-key-access-start c = omega (arith, placed-within _ key-access-walks _ _ _ _ (c .before .before .before .before .before .before .before .before .before .pre .0) _ (c .before .loop-test .taken))
 
 part-read-key-access-end : tie.Need-part-read-key-access-end Inv-loop μ-loop
 part-read-key-access-end c = search needs
@@ -42,31 +50,28 @@ enum-told : tie.Need-enum-told Inv-loop μ-loop
 enum-told c = search needs
 
 same-length : tie.Need-same-length Inv-loop μ-loop
-same-length c = c .before .before .before .before .before .loop .inv .2
+same-length c = c .before .before .before .before .before .before .loop .inv .2
 
 returns : tie.Need-returns Inv-loop μ-loop
-returns c = absurd (walking-well _ _ _ _ _ _ _ (c .before .before .before .before .before .loop .inv .0) (c .before .before .before .before .loop-test .taken) _ (access-bad _ _ _ (c .before .before .read-key-access .ensures) (c .enum-told .given .1)))
+returns c = absurd (placed-well _ key-access-walks _ _ _ _ (c .before .before .before .before .before .before .before .before .before .before .before .before .before .pre .0) _ (c .before .before .before .before .before .loop-test .taken) _ (access-bad _ _ _ (c .before .before .read-key-access .ensures) (c .enum-told .given .1)))
 
 take-access-requires : tie.Need-take-access-requires Inv-loop μ-loop
-take-access-requires c κs = (c .before .before .before .before .before .before .before .before .before .before .before .before .before .pre .2, omega (arith, c .before .before .before .before .before .before .before .before .before .before .before .before .before .pre .3, c .before .before .before .before .before .before .before .loop .inv .2), c .before .before .before .before .before .before .before .before .before .before .before .before .before .pre .1 .accesses _ _ (walking-at _ _ _ _ _ _ _ (c .before .before .before .before .before .before .before .loop .inv .0) (c .before .before .before .before .before .before .loop-test .taken) _ _ (access-got _ _ _ _ (c .before .before .before .before .read-key-access .ensures) (c .before .before .read .given .1))) .depth)
-
-add-at : tie.Need-add-at Inv-loop μ-loop
-add-at c = omega (arith, walking-fits _ _ _ _ _ _ _ (c .before .before .before .before .before .before .before .before .before .before .loop .inv .0) (c .before .before .before .before .before .before .before .before .before .loop-test .taken) _ _ (access-got _ _ _ _ (c .before .before .before .before .before .before .before .read-key-access .ensures) (c .before .before .before .before .before .read .given .1)))
+take-access-requires c κs = (c .before .before .before .before .before .before .before .before .before .before .before .before .before .before .before .pre .2, omega (arith, c .before .before .before .before .before .before .before .before .before .before .before .before .before .before .before .pre .3, c .before .before .before .before .before .before .before .before .loop .inv .2), c .before .before .before .before .before .before .before .before .before .before .before .before .before .before .before .pre .1 .accesses _ _ (placed-at _ key-access-walks _ _ _ _ (c .before .before .before .before .before .before .before .before .before .before .before .before .before .before .before .pre .0) _ (c .before .before .before .before .before .before .before .loop-test .taken) _ _ (access-got _ _ _ _ (c .before .before .before .before .read-key-access .ensures) (c .before .before .read .given .1))) .depth)
 
 add-i : tie.Need-add-i Inv-loop μ-loop
-add-i c = omega (arith, c .before .before .before .before .before .before .before .before .before .loop-test .taken)
+add-i c = omega (arith, c .before .before .before .before .before .before .before .before .before .before .loop-test .taken, c .before .before .before .before .before .before .before .before .before .before .before .before .before .before .before .before .before .before .good .1 .0)
 
 loop-less : tie.Need-loop-less Inv-loop μ-loop
-loop-less c = omega (arith, c .before .before .before .before .before .before .before .before .before .loop-test .taken)
+loop-less c = omega (arith, c .before .before .before .before .before .before .before .before .before .before .loop-test .taken)
 
 loop-again : tie.Need-loop-again Inv-loop μ-loop
-loop-again c = let d = access-got _ _ _ _ (c .before .before .before .before .before .before .before .read-key-access .ensures) (c .before .before .before .before .before .read .given .1) in let a = walking-at _ _ _ _ _ _ _ (c .before .before .before .before .before .before .before .before .before .before .loop .inv .0) (c .before .before .before .before .before .before .before .before .before .loop-test .taken) _ _ d in (walking-on _ _ _ _ _ _ _ (c .before .before .before .before .before .before .before .before .before .before .loop .inv .0) (c .before .before .before .before .before .before .before .before .before .loop-test .taken) _ _ d, given-more _ _ _ _ _ a (c .before .before .before .before .before .before .before .before .before .before .before .before .before .before .before .before .pre .1 .accesses _ _ a .depth) _ (omega (arith, c .before .before .before .before .before .before .before .before .before .before .before .before .before .before .before .before .pre .3, c .before .before .before .before .before .before .before .before .before .before .loop .inv .2)) (c .before .before .before .before .before .before .before .before .before .before .loop .inv .1) (c .before .before .before .before .before .before .before .before .before .before .before .before .before .before .before .before .pre .2 .apart) _ (c .before .before .take-access .ensures), c .before .best .given ∙ c .before .before .before .before .before .before .before .before .before .before .loop .inv .2)
+loop-again c = let a = (placed-at _ key-access-walks _ _ _ _ (c .before .before .before .before .before .before .before .before .before .before .before .before .before .before .before .before .before .before .pre .0) _ (c .before .before .before .before .before .before .before .before .before .before .loop-test .taken) _ _ (access-got _ _ _ _ (c .before .before .before .before .before .before .before .read-key-access .ensures) (c .before .before .before .before .before .read .given .1))) in (given-more _ _ _ _ _ a (c .before .before .before .before .before .before .before .before .before .before .before .before .before .before .before .before .before .before .pre .1 .accesses _ _ a .depth) _ (omega (arith, c .before .before .before .before .before .before .before .before .before .before .before .before .before .before .before .before .before .before .pre .3, c .before .before .before .before .before .before .before .before .before .before .before .loop .inv .2)) (c .before .before .before .before .before .before .before .before .before .before .before .loop .inv .0) (c .before .before .before .before .before .before .before .before .before .before .before .before .before .before .before .before .before .before .pre .2 .apart) _ (c .before .before .take-access .ensures), omega (arith, c .before .before .before .before .before .before .before .before .before .before .loop-test .taken), c .before .best .given ∙ c .before .before .before .before .before .before .before .before .before .before .before .loop .inv .2)
 
 same-length-2 : tie.Need-same-length-2 Inv-loop μ-loop
 same-length-2 c = c .before .loop .inv .2
 
 returns-2 : tie.Need-returns-2 Inv-loop μ-loop
-returns-2 c = given-all _ _ _ _ _ _ (c .before .loop .inv .1) (walking-end _ _ _ _ _ _ _ (c .before .loop .inv .0) (c .loop-test .left))
+returns-2 c = given-all _ _ _ _ _ _ (c .before .loop .inv .0) (placed-end _ _ _ _ _ (c .before .before .before .before .before .before .before .before .pre .0) _ (c .before .loop .inv .1) (c .loop-test .left))
 
 pub collect-codes-spec : {M : Type 1} → statement M
 collect-codes-spec =
@@ -75,6 +80,9 @@ collect-codes-spec =
     Inv-loop
     μ-loop
     loop-holds
+    mul-at
+    shared-slice-read-at
+    cast-at
     sub-read-key-access
     part-read-key-access-start
     part-read-key-access-end
@@ -84,7 +92,6 @@ collect-codes-spec =
     same-length
     returns
     take-access-requires
-    add-at
     add-i
     loop-less
     loop-again

@@ -1,35 +1,41 @@
--- `collect_edges` goes through the delegations, which are known to be good, and takes each.
+-- `collect_edges` goes through the places of the delegations, of which each can be read, and takes each.
 use mathlib.Core.Path.{_≡_, refl, _∙_}
 use Prim.Native.Nat.{_-_, _≤_}
 use native.Mathlib.Omega.{arith}
 use lib.ListN.{length, take}
-use Rattle.records.specs.KeyRecords.{keyDelegationRecord}
 use Rattle.records.proofs.KeyRecordsForm.{key-delegation-walks}
-use Rattle.keytable.specs.Loading.{keyTableAt}
+use Rattle.keytable.specs.Keeping.{askedAt}
 use Rattle.keytable.specs.Matching.{keyRequestOf, DrawnOf}
 use Rattle.keytable.proofs.AnswersLaws.{delegation-got, delegation-bad}
-use Rattle.keytable.proofs.WalkingLaws.{Walking, walking-start, walking-fits, walking-at, walking-on, walking-well, walking-end}
+use Rattle.keytable.proofs.SiftingLaws.{placed-within, placed-at, placed-well, placed-end}
 use Rattle.keytable.proofs.CollectingLaws.{drawn-none, drawn-more, drawn-all}
 use borrow.Author.Needs.{needs}
 use Rattle.keytable.proofs.collecting.collect_edges.Statement.{statement}
 use Rattle.keytable.proofs.collecting.collect_edges.Tie as tie
 
 abbrev Inv-loop : tie.InvT-loop
-Inv-loop table request keys heads nexts edges₀ count at₀ m₀ i₀ edges at m i =
-    Walking keyDelegationRecord key-delegation-walks table (keyTableAt table .delegations) count i at × DrawnOf (keyTableAt table) (keyRequestOf request .asked) keys i (take m edges)
-    × (m ≤ i) × (length edges ≡ length edges₀)
+Inv-loop table places request keys heads nexts edges₀ count m₀ i₀ edges m i = DrawnOf (askedAt table (keyRequestOf request .asked)) (keyRequestOf request .asked) keys i (take m edges) × (i ≤ count) × (m ≤ i) × (length edges ≡ length edges₀)
 
 abbrev μ-loop : tie.MeasureT-loop
-μ-loop table request keys heads nexts edges₀ count at₀ m₀ i₀ edges at m i = count - i
+μ-loop table places request keys heads nexts edges₀ count m₀ i₀ edges m i = count - i
 
 loop-holds : tie.Need-loop-holds Inv-loop μ-loop
-loop-holds c = (walking-start _ key-delegation-walks _ _ _ (c .before .before .before .before .before .pre .0), drawn-none _ _ _, omega arith, refl)
+loop-holds c = (drawn-none _ _ _, omega arith, omega arith, refl)
+
+mul-at : tie.Need-mul-at Inv-loop μ-loop
+mul-at c = omega (arith, c .loop-test .taken, c .before .before .before .before .before .before .before .before .good .1 .0)
+
+shared-slice-read-at : tie.Need-shared-slice-read-at Inv-loop μ-loop
+shared-slice-read-at c = omega (arith, c .before .loop-test .taken)
+
+cast-at : tie.Need-cast-at Inv-loop μ-loop
+cast-at c = omega (arith, c .shared-slice-known6 .given (c .before .before .loop .i))
 
 sub-read-key-delegation : tie.Need-sub-read-key-delegation Inv-loop μ-loop
-sub-read-key-delegation c = omega (arith, c .before .loop .inv .0 .within)
+sub-read-key-delegation c = omega (arith, placed-within _ key-delegation-walks _ _ _ _ (c .before .before .before .before .before .before .before .before .before .pre .0) _ (c .before .loop-test .taken))
 
 part-read-key-delegation-start : tie.Need-part-read-key-delegation-start Inv-loop μ-loop
-part-read-key-delegation-start c = omega (arith, c .before .loop .inv .0 .within)
+part-read-key-delegation-start c = omega (arith, placed-within _ key-delegation-walks _ _ _ _ (c .before .before .before .before .before .before .before .before .before .pre .0) _ (c .before .loop-test .taken))
 
 part-read-key-delegation-end : tie.Need-part-read-key-delegation-end Inv-loop μ-loop
 part-read-key-delegation-end c = search needs
@@ -44,31 +50,28 @@ enum-told : tie.Need-enum-told Inv-loop μ-loop
 enum-told c = search needs
 
 same-length : tie.Need-same-length Inv-loop μ-loop
-same-length c = c .before .before .before .before .before .loop .inv .3
+same-length c = c .before .before .before .before .before .before .loop .inv .3
 
 returns : tie.Need-returns Inv-loop μ-loop
-returns c = absurd (walking-well _ _ _ _ _ _ _ (c .before .before .before .before .before .loop .inv .0) (c .before .before .before .before .loop-test .taken) _ (delegation-bad _ _ _ (c .before .before .read-key-delegation .ensures) (c .enum-told .given .1)))
+returns c = absurd (placed-well _ key-delegation-walks _ _ _ _ (c .before .before .before .before .before .before .before .before .before .before .before .before .before .pre .0) _ (c .before .before .before .before .before .loop-test .taken) _ (delegation-bad _ _ _ (c .before .before .read-key-delegation .ensures) (c .enum-told .given .1)))
 
 take-delegation-requires : tie.Need-take-delegation-requires Inv-loop μ-loop
-take-delegation-requires c κs = (c .before .before .before .before .before .before .before .before .before .before .before .before .before .pre .2, c .before .before .before .before .before .before .before .before .before .before .before .before .before .pre .3, c .before .before .before .before .before .before .before .before .before .before .before .before .before .pre .1 .delegations _ _ (walking-at _ _ _ _ _ _ _ (c .before .before .before .before .before .before .before .loop .inv .0) (c .before .before .before .before .before .before .loop-test .taken) _ _ (delegation-got _ _ _ _ (c .before .before .before .before .read-key-delegation .ensures) (c .before .before .read .given .1))) .depth, omega (arith, c .before .before .before .before .before .before .before .loop .inv .2, c .before .before .before .before .before .before .before .loop .inv .3, c .before .before .before .before .before .before .loop-test .taken, c .before .before .before .before .before .before .before .before .before .before .before .before .before .pre .4))
-
-add-at : tie.Need-add-at Inv-loop μ-loop
-add-at c = omega (arith, walking-fits _ _ _ _ _ _ _ (c .before .before .before .before .before .before .before .before .before .before .loop .inv .0) (c .before .before .before .before .before .before .before .before .before .loop-test .taken) _ _ (delegation-got _ _ _ _ (c .before .before .before .before .before .before .before .read-key-delegation .ensures) (c .before .before .before .before .before .read .given .1)), c .before .before .before .before .before .before .before .before .before .before .before .before .before .before .before .before .good .0)
+take-delegation-requires c κs = (c .before .before .before .before .before .before .before .before .before .before .before .before .before .before .before .pre .2, c .before .before .before .before .before .before .before .before .before .before .before .before .before .before .before .pre .3, c .before .before .before .before .before .before .before .before .before .before .before .before .before .before .before .pre .1 .delegations _ _ (placed-at _ key-delegation-walks _ _ _ _ (c .before .before .before .before .before .before .before .before .before .before .before .before .before .before .before .pre .0) _ (c .before .before .before .before .before .before .before .loop-test .taken) _ _ (delegation-got _ _ _ _ (c .before .before .before .before .read-key-delegation .ensures) (c .before .before .read .given .1))) .depth, omega (arith, c .before .before .before .before .before .before .before .before .loop .inv .2, c .before .before .before .before .before .before .before .before .loop .inv .3, c .before .before .before .before .before .before .before .loop-test .taken, c .before .before .before .before .before .before .before .before .before .before .before .before .before .before .before .pre .4))
 
 add-i : tie.Need-add-i Inv-loop μ-loop
-add-i c = omega (arith, c .before .before .before .before .before .before .before .before .before .loop-test .taken, c .before .before .before .before .before .before .before .before .before .before .loop .inv .0 .counted, c .before .before .before .before .before .before .before .before .before .before .before .before .before .before .before .before .pre .1 .fewDelegations)
+add-i c = omega (arith, c .before .before .before .before .before .before .before .before .before .before .loop-test .taken, c .before .before .before .before .before .before .before .before .before .before .before .before .before .before .before .before .before .before .good .1 .0)
 
 loop-less : tie.Need-loop-less Inv-loop μ-loop
-loop-less c = omega (arith, c .before .before .before .before .before .before .before .before .before .loop-test .taken)
+loop-less c = omega (arith, c .before .before .before .before .before .before .before .before .before .before .loop-test .taken)
 
 loop-again : tie.Need-loop-again Inv-loop μ-loop
-loop-again c = let d = (delegation-got _ _ _ _ (c .before .before .before .before .before .before .before .read-key-delegation .ensures) (c .before .before .before .before .before .read .given .1)) in (walking-on _ _ _ _ _ _ _ (c .before .before .before .before .before .before .before .before .before .before .loop .inv .0) (c .before .before .before .before .before .before .before .before .before .loop-test .taken) _ _ d, drawn-more _ _ _ _ _ (walking-at _ _ _ _ _ _ _ (c .before .before .before .before .before .before .before .before .before .before .loop .inv .0) (c .before .before .before .before .before .before .before .before .before .loop-test .taken) _ _ d) _ _ _ (c .before .before .before .before .before .before .before .before .before .before .loop .inv .1) (c .before .before .before .before .before .before .before .before .before .before .before .before .before .before .before .before .pre .2 .apart) _ _ _ (c .before .before .take-delegation .ensures .0), omega (arith, c .before .before .before .before .before .before .before .before .before .before .loop .inv .2, c .before .before .take-delegation .ensures .1), c .before .edges .given ∙ c .before .before .before .before .before .before .before .before .before .before .loop .inv .3)
+loop-again c = (drawn-more _ _ _ _ _ (placed-at _ key-delegation-walks _ _ _ _ (c .before .before .before .before .before .before .before .before .before .before .before .before .before .before .before .before .before .before .pre .0) _ (c .before .before .before .before .before .before .before .before .before .before .loop-test .taken) _ _ (delegation-got _ _ _ _ (c .before .before .before .before .before .before .before .read-key-delegation .ensures) (c .before .before .before .before .before .read .given .1))) _ _ _ (c .before .before .before .before .before .before .before .before .before .before .before .loop .inv .0) (c .before .before .before .before .before .before .before .before .before .before .before .before .before .before .before .before .before .before .pre .2 .apart) _ _ _ (c .before .before .take-delegation .ensures .0), omega (arith, c .before .before .before .before .before .before .before .before .before .before .loop-test .taken), omega (arith, c .before .before .before .before .before .before .before .before .before .before .before .loop .inv .2, c .before .before .take-delegation .ensures .1), c .before .edges .given ∙ c .before .before .before .before .before .before .before .before .before .before .before .loop .inv .3)
 
 same-length-2 : tie.Need-same-length-2 Inv-loop μ-loop
 same-length-2 c = c .before .loop .inv .3
 
 returns-2 : tie.Need-returns-2 Inv-loop μ-loop
-returns-2 c = (drawn-all _ _ _ _ _ _ _ _ (c .before .loop .inv .1) (walking-end _ _ _ _ _ _ _ (c .before .loop .inv .0) (c .loop-test .left)), omega (arith, c .before .loop .inv .2, c .before .loop .inv .0 .most))
+returns-2 c = (drawn-all _ _ _ _ _ _ _ _ (c .before .loop .inv .0) (placed-end _ _ _ _ _ (c .before .before .before .before .before .before .before .before .pre .0) _ (c .before .loop .inv .1) (c .loop-test .left)), omega (arith, c .before .loop .inv .2, c .before .loop .inv .1))
 
 pub collect-edges-spec : {M : Type 1} → statement M
 collect-edges-spec =
@@ -77,6 +80,9 @@ collect-edges-spec =
     Inv-loop
     μ-loop
     loop-holds
+    mul-at
+    shared-slice-read-at
+    cast-at
     sub-read-key-delegation
     part-read-key-delegation-start
     part-read-key-delegation-end
@@ -86,7 +92,6 @@ collect-edges-spec =
     same-length
     returns
     take-delegation-requires
-    add-at
     add-i
     loop-less
     loop-again

@@ -1,5 +1,6 @@
 -- `load_delegations` judges the count, then reads so many records.
-use Rattle.table.proofs.SectionsLaws.{count-within, section-fails, records-fail, section-found}
+use native.Mathlib.Omega.{arith}
+use Rattle.table.proofs.SectionsLaws.{count-few, count-within, section-fails, records-fail, section-found}
 use borrow.Author.Needs.{needs}
 use Rattle.keytable.proofs.loading.load_delegations.Statement.{statement}
 use Rattle.keytable.proofs.loading.load_delegations.Tie as tie
@@ -17,13 +18,13 @@ field-fault-requires : tie.Need-field-fault-requires
 field-fault-requires c κs = search needs
 
 returns : tie.Need-returns
-returns c = section-fails _ _ _ _ _ (c .before .before .before .read-field .ensures) (λ x. Unit {0}) _ _ (c .before .enum-told .given .1) (c .field-fault .ensures) .0
+returns c = section-fails _ _ _ _ _ (c .before .before .before .read-field .ensures) _ _ _ (c .before .enum-told .given .1) (c .field-fault .ensures)
 
 cast-count : tie.Need-cast-count
 cast-count c = search needs
 
 read-delegations-requires : tie.Need-read-delegations-requires
-read-delegations-requires c κs = count-within _ _ _ _ _ _ (c .before .before .before .read-field .ensures) (c .before .header .given .1) (c .before .before .before .before .before .pre)
+read-delegations-requires c κs = let n = count-few _ _ _ _ _ _ (c .before .before .before .before .read-field .ensures) (c .before .before .header .given .1) in (omega (arith, n, c .before .before .before .before .before .before .before .pre .0), count-within _ _ _ _ _ _ (c .before .before .before .before .read-field .ensures) (c .before .before .header .given .1) (c .before .before .before .before .before .before .before .pre .1), c .before .before .before .before .before .before .before .pre .2)
 
 enum-known-rest : tie.Need-enum-known-rest
 enum-known-rest c = search needs
@@ -34,11 +35,17 @@ enum-told-2 c = search needs
 after-fault-requires : tie.Need-after-fault-requires
 after-fault-requires c κs = search needs
 
+same-length : tie.Need-same-length
+same-length c = search needs
+
 returns-2 : tie.Need-returns-2
-returns-2 c = records-fail _ _ _ _ _ (c .before .before .before .before .before .before .before .read-field .ensures) (λ x. Unit {0}) _ _ (c .before .before .before .before .before .header .given .1) _ (c .before .before .before .read-delegations .ensures) _ _ (c .before .enum-told2 .given .1) (c .after-fault .ensures) .0
+returns-2 c = records-fail _ _ _ _ _ (c .before .before .before .before .before .before .before .before .before .before .read-field .ensures) _ _ _ (c .before .before .before .before .before .before .before .before .header .given .1) _ (c .before .before .before .before .before .read-delegations .ensures .0) _ _ (c .before .enum-told2 .given .1) (c .after-fault .ensures)
+
+same-length-2 : tie.Need-same-length-2
+same-length-2 c = search needs
 
 returns-3 : tie.Need-returns-3
-returns-3 c = section-found _ _ _ _ _ (c .before .before .before .before .before .before .before .read-field .ensures) (λ x. Unit {0}) _ _ (c .before .before .before .before .before .header .given .1) _ (c .before .before .before .read-delegations .ensures) _ (c .before .rest .given .1) (λ l end e. tt) .0
+returns-3 c = section-found _ _ _ _ _ (c .before .before .before .before .before .before .before .before .before .before .read-field .ensures) _ _ _ (c .before .before .before .before .before .before .before .before .header .given .1) _ (c .before .before .before .before .before .read-delegations .ensures .0) _ (c .before .rest .given .1) (c .before .before .before .before .before .read-delegations .ensures .1)
 
 pub load-delegations-spec : {M : Type 1} → statement M
 load-delegations-spec =
@@ -54,5 +61,7 @@ load-delegations-spec =
     enum-known-rest
     enum-told-2
     after-fault-requires
+    same-length
     returns-2
+    same-length-2
     returns-3)

@@ -7,10 +7,10 @@ returns : tie.Need-returns
 returns c = other-owner _ _ _ _ (c .if1 .taken)
 
 returns-2 : tie.Need-returns-2
-returns-2 c = other-object _ _ _ _ (c .if2 .taken)
+returns-2 c = other-object _ _ _ _ (c .before .before .before .if1 .left) (c .if2 .taken)
 
 returns-3 : tie.Need-returns-3
-returns-3 c = other-right _ _ _ _ (c .if3 .taken)
+returns-3 c = other-right _ _ _ _ (c .before .before .before .before .before .before .if1 .left) (c .before .before .before .if2 .left) (c .if3 .taken)
 
 returns-4 : tie.Need-returns-4
 returns-4 c = asks-all _ _ _ _ (c .before .before .before .before .before .before .if1 .left) (c .before .before .before .if2 .left) (c .if3 .left)

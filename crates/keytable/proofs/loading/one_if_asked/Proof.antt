@@ -1,0 +1,25 @@
+-- `one_if_asked` counts by the test.
+use mathlib.Core.Path.{sym, _∙_, ap}
+use mathlib.Core.Bool.{Bool}
+use Rattle.rules.specs.Choice.{pick}
+use borrow.Author.Needs.{needs}
+use Rattle.keytable.proofs.loading.one_if_asked.Statement.{statement}
+use Rattle.keytable.proofs.loading.one_if_asked.Tie as tie
+use Rattle.keytable.proofs.loading.one_if_asked.Reads as reads
+use Rattle.keytable.proofs.loading.one_if_asked.Lts as lts
+use Rattle.keytable.proofs.matching.is_asked.Reads as is-asked-reads
+
+-- src/loading.rt:50:8
+is-asked-requires : tie.Need-is-asked-requires
+is-asked-requires c κs = search needs
+
+-- src/loading.rt:51:9
+returns : tie.Need-returns
+returns c = ap (λ (b : Bool). pick b 1 0) (sym (c .if1 .taken) ∙ c .before .is-asked .ensures)
+
+-- src/loading.rt:47:1
+returns-2 : tie.Need-returns-2
+returns-2 c = ap (λ (b : Bool). pick b 1 0) (sym (c .if1 .left) ∙ c .before .is-asked .ensures)
+
+pub one-if-asked-spec : {M : Type 1} → statement M
+one-if-asked-spec = tie.close (tie.spec is-asked-requires returns returns-2)

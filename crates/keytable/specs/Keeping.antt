@@ -1,0 +1,56 @@
+-- What reading a key table for a request keeps: where those records stand that are for what is asked.
+use mathlib.Core.Path.{_≡_}
+use mathlib.Core.Bool.{Bool, _&&_}
+use mathlib.Core.List.{List, [], _∷_}
+use Prim.Native.Nat.{ℕ, _≤_}
+use lib.Dec.{eqb}
+use lib.ListN.{length}
+use Rattle.rules.specs.Choice.{pick}
+use Rattle.rules.specs.Ranges.{GoodKeyTable}
+use Rattle.rules.specs.Tables.{Asked}
+use Rattle.rules.specs.KeyTables.{KeyAccess, KeyDelegation, KeyTable}
+use Rattle.rules.specs.declared.Key.{Key}
+use Rattle.records.specs.Parsed.{Reader}
+use Rattle.records.specs.KeyRecords.{keyAccessRecord, keyDelegationRecord}
+use Rattle.table.specs.Kept.{Standing}
+use Rattle.table.specs.ReadKeyTable.{KeyLaid}
+use Rattle.keytable.specs.Loading.{keyTableAt}
+
+-- Whether a record for this owner, object and right is for what is asked.
+unfoldable pub isAsked : Asked Key → Key → ℕ → ℕ → Bool
+isAsked q owner object right = eqb (owner .0) (q .owner .0) && (eqb object (q .object) && eqb right (q .right))
+
+abbrev pub accessAsked : Asked Key → KeyAccess → Bool
+accessAsked q x = isAsked q (x .owner) (x .object) (x .right)
+
+abbrev pub delegationAsked : Asked Key → KeyDelegation → Bool
+delegationAsked q x = isAsked q (x .owner) (x .object) (x .right)
+
+-- The elements that pass the test, in their order.
+unfoldable pub sift : {A : Type 0} → (A → Bool) → List A → List A
+sift f [] = []
+sift f (x ∷ l) = pick (f x) (x ∷ sift f l) (sift f l)
+
+-- The key table without the records that are for something else.
+abbrev pub askedOf : KeyTable → Asked Key → KeyTable
+askedOf K q = record { accesses = sift (accessAsked q) (K .accesses); delegations = sift (delegationAsked q) (K .delegations) }
+
+abbrev pub askedAt : List ℕ → Asked Key → KeyTable
+askedAt s q = askedOf (keyTableAt s) q
+
+-- The first `n` entries are the places at which the records of the list stand.
+pub record Placed {A : Type 0} (P : Reader A) (s places : List ℕ) (n : ℕ) (l : List A) : Type 0 where
+  pub counted : n ≡ length l
+  pub room : n ≤ length places
+  pub standing : Standing P s places l
+
+-- What is kept of the records that were read.
+pub record KeysKept (s : List ℕ) (q : Asked Key) (accessPlaces : List ℕ) (n : ℕ) (delegationPlaces : List ℕ) (m : ℕ) (l : KeyLaid) : Type 0 where
+  pub accesses : Placed keyAccessRecord s accessPlaces n (sift (accessAsked q) (l .accesses .records))
+  pub delegations : Placed keyDelegationRecord s delegationPlaces m (sift (delegationAsked q) (l .delegations .records))
+
+-- Good bytes, and where the records stand that are for what is asked.
+pub record Known (s : List ℕ) (q : Asked Key) (accessPlaces delegationPlaces : List ℕ) : Type 0 where
+  pub good : GoodKeyTable (askedAt s q)
+  pub accesses : Placed keyAccessRecord s accessPlaces (length accessPlaces) (askedAt s q .accesses)
+  pub delegations : Placed keyDelegationRecord s delegationPlaces (length delegationPlaces) (askedAt s q .delegations)
