@@ -22,7 +22,7 @@ use Rattle.translation.proofs.Theorems.{translation-loads}
 use Rattle.kernel.specs.Answers.{bare, succeeded, ofFault, ofDecided, ofChecked, ofTranslated, ofKeyAnswer, Fits}
 use Rattle.kernel.proofs.PlacesLaws.{table-fault, key-table-fault}
 
-fault-fits : (e : Fault) → e .place .offset ≤ 32768 → Fits (ofFault e)
+pub fault-fits : (e : Fault) → e .place .offset ≤ 32768 → Fits (ofFault e)
 fault-fits e h = record { offset = omega (arith, h); length = omega arith }
 
 bare-fits : (n : ℕ) → Fits (bare n)
@@ -31,7 +31,7 @@ bare-fits n = record { offset = omega arith; length = omega arith }
 short-fits : (d n : ℕ) → n < 32768 → Fits (succeeded d n)
 short-fits d n h = record { offset = omega arith; length = omega (arith, h) }
 
-derivation-fits : (s : List ℕ) (l : Laid) → readDerivation s ≡ some l → length s ≤ mostDerivation
+pub derivation-fits : (s : List ℕ) (l : Laid) → readDerivation s ≡ some l → length s ≤ mostDerivation
 unfolding readDerivation
 derivation-fits s l e = whole-form mostDerivation derivationFields s l e .0
 

@@ -3,3 +3,4 @@ pub mod AnswersLaws
 pub mod FitsLaws
 pub mod PlacesLaws
 pub mod Theorems
+pub mod WrittenLaws

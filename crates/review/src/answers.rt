@@ -1,46 +1,15 @@
 // The reviewer's list of answers in words: the number on the first line, then its name, its place if it has one, and what it means.
-ghost use mathlib.Core.Path.{_≡_};
-ghost use Rattle.review.specs.Answers.{faultNumber};
 use crate::printing::say;
-use crate::printing::say_count;
 use crate::printing::say_number;
-use records::faults::Fault;
-use records::faults::Kind;
-
-pub const GOOD: u32 = 0;
-
-pub const WRONG_REQUEST: u32 = 8;
-
-pub const ROOM: u32 = 9;
-
-pub const UNNAMED: u32 = 10;
-
-pub const DENIED: u32 = 11;
-
-pub const NOT_A_DERIVATION: u32 = 12;
-
-pub const OVERRUN: u32 = 13;
+use crate::printing::say_with;
+use kernel::answers::Answer;
+use kernel::answers::WRONG_REQUEST;
 
 pub const WRONG_USE: u32 = 64;
 
 pub const NO_INPUT: u32 = 66;
 
 pub const NO_OUTPUT: u32 = 73;
-
-// The number of a fault of this kind.
-fn number_of(kind: Kind) -> u32
-    ensures { λ r. ⌜ r ≡ faultNumber kind ⌝ }
-{
-    match kind {
-        Kind::Long => 1,
-        Kind::Cut => 2,
-        Kind::Number => 3,
-        Kind::Range => 4,
-        Kind::Twice => 5,
-        Kind::Extra => 6,
-        Kind::Version => 7,
-    }
-}
 
 // The name of an answer.
 fn say_name(number: u32) {
@@ -86,28 +55,16 @@ pub fn say_answer(number: u32) {
     say(b"\n");
 }
 
-// Writes a refusal that has no place.
-pub fn say_refusal(number: u32) {
+// Writes a refusal, with the place of a table's fault.
+pub fn say_refusal(answer: Answer) {
+    let number = answer.number;
     say_answer(number);
     say_number(number);
     say(b" ");
     say_name(number);
-    say(b": ");
-    say_meaning(number);
-    say(b"\n");
-}
-
-// Writes a fault of a table, with its place.
-pub fn say_fault(fault: Fault) {
-    let kind = fault.kind;
-    let place = fault.place;
-    let number = number_of(kind);
-    say_answer(number);
-    say_number(number);
-    say(b" ");
-    say_name(number);
-    say(b" at offset ");
-    say_count(place.offset);
+    if number < WRONG_REQUEST {
+        say_with(b" at offset ", answer.offset);
+    }
     say(b": ");
     say_meaning(number);
     say(b"\n");

@@ -1,9 +1,5 @@
 // review check TABLE DERIVATION REQUEST: checks the derivation, and explains one that holds.
-use crate::answers::GOOD;
-use crate::answers::NOT_A_DERIVATION;
-use crate::answers::WRONG_REQUEST;
 use crate::answers::say_answer;
-use crate::answers::say_fault;
 use crate::answers::say_refusal;
 use crate::asking::ask;
 use crate::files::Part;
@@ -13,22 +9,20 @@ use crate::opening::open;
 use crate::printing::say;
 use crate::printing::say_with;
 use crate::writing::Form;
-use checker::Checked;
-use checker::check;
+use kernel::answers::DONE;
+use kernel::rustamgheb_check;
 
 // Answers whether the derivation holds.
 fn answer(table: &[u8], request: &[u8], derivation: &[u8]) {
-    match check(table, request, derivation) {
-        Checked::Accepted(depth) => {
-            say_answer(GOOD);
-            say_with(b"0 Accepted, depth ", depth.number());
-            say(b".\n");
-            open(table, request, derivation, Task::Explain);
-        }
-        Checked::BadTable(fault) => say_fault(fault),
-        Checked::BadRequest => say_refusal(WRONG_REQUEST),
-        Checked::NotDerivation => say_refusal(NOT_A_DERIVATION),
+    let told = rustamgheb_check(table, request, derivation);
+    if told.number != DONE {
+        say_refusal(told);
+        return;
     }
+    say_answer(DONE);
+    say_with(b"0 Accepted, depth ", told.depth);
+    say(b".\n");
+    open(table, request, derivation, Task::Explain);
 }
 
 // Reads the table, the derivation and the request, and answers.

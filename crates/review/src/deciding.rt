@@ -1,12 +1,5 @@
 // review decide TABLE SAVE REQUEST: decides, explains a grant, and saves its derivation.
-use crate::answers::DENIED;
-use crate::answers::GOOD;
-use crate::answers::OVERRUN;
-use crate::answers::ROOM;
-use crate::answers::UNNAMED;
-use crate::answers::WRONG_REQUEST;
 use crate::answers::say_answer;
-use crate::answers::say_fault;
 use crate::answers::say_refusal;
 use crate::asking::ask;
 use crate::files::Part;
@@ -20,9 +13,9 @@ use crate::printing::say_count;
 use crate::printing::say_with;
 use crate::words::is_word;
 use crate::writing::Form;
-use decision::Decided;
-use decision::decide;
-use rules::Depth;
+use kernel::answers::DONE;
+use kernel::answers::UNNAMED;
+use kernel::rustamgheb_decide;
 
 // Saves the derivation where that was asked for, and says whether it could.
 fn save(derivation: &[u8]) -> bool {
@@ -33,12 +26,12 @@ fn save(derivation: &[u8]) -> bool {
 }
 
 // Tells a grant.
-fn grant(table: &[u8], request: &[u8], depth: Depth, derivation: &[u8]) {
+fn grant(table: &[u8], request: &[u8], depth: u32, derivation: &[u8]) {
     if !save(derivation) {
         return;
     }
-    say_answer(GOOD);
-    say_with(b"0 Granted, depth ", depth.number());
+    say_answer(DONE);
+    say_with(b"0 Granted, depth ", depth);
     say(b". The derivation has ");
     say_count(derivation.len());
     say(b" bytes:");
@@ -47,24 +40,19 @@ fn grant(table: &[u8], request: &[u8], depth: Depth, derivation: &[u8]) {
     open(table, request, derivation, Task::Explain);
 }
 
-// Tells a refusal of a request that was read, with what the subject's name goes through.
-fn refuse(table: &[u8], request: &[u8], number: u32) {
-    say_refusal(number);
-    open(table, request, b"", Task::Explain);
-}
-
-// Answers a request by a table.
+// Answers a request by a table. From Unnamed on it was read, and what the subject's name goes through is told.
 fn answer(table: &[u8], request: &[u8]) {
     let mut sheet = [0u32; 256];
     let mut derivation = [0u8; 512];
-    match decide(table, request, &mut sheet, &mut derivation) {
-        Decided::Granted(depth, length) => grant(table, request, depth, &derivation[..length]),
-        Decided::BadTable(fault) => say_fault(fault),
-        Decided::BadRequest => say_refusal(WRONG_REQUEST),
-        Decided::Room => say_refusal(ROOM),
-        Decided::Unnamed => refuse(table, request, UNNAMED),
-        Decided::Denied => refuse(table, request, DENIED),
-        Decided::Overrun => refuse(table, request, OVERRUN),
+    let told = rustamgheb_decide(table, request, &mut sheet, &mut derivation);
+    if told.number == DONE {
+        let length = told.length as usize;
+        grant(table, request, told.depth, &derivation[..length]);
+        return;
+    }
+    say_refusal(told);
+    if UNNAMED <= told.number {
+        open(table, request, b"", Task::Explain);
     }
 }
 

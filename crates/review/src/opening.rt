@@ -2,9 +2,10 @@
 ghost use Rattle.table.specs.ReadTable.{tableAt};
 ghost use Rattle.sheet.specs.Listings.{Known};
 ghost use Rattle.matching.specs.Matching.{Held};
-use crate::answers::say_fault;
+use crate::answers::say_refusal;
 use crate::explaining::explain;
 use crate::showing::show;
+use kernel::answers::of_fault;
 use sheet::filling::fill;
 use table::Loaded;
 use table::load_index;
@@ -84,6 +85,6 @@ pub fn open(table: &[u8], request: &[u8], derivation: &[u8], task: Task) {
                 task,
             );
         }
-        Loaded::Bad(fault) => say_fault(fault),
+        Loaded::Bad(fault) => say_refusal(of_fault(fault)),
     }
 }

@@ -2,7 +2,6 @@
 ghost use Prim.Native.Nat.{_<_};
 ghost use lib.ListN.{length};
 ghost use Rattle.review.specs.Opened.{Opened};
-use crate::answers::GOOD;
 use crate::answers::say_answer;
 use crate::columns::column;
 use crate::columns::key_column;
@@ -13,6 +12,7 @@ use crate::finding::delegation_at;
 use crate::names::say_path;
 use crate::names::say_target;
 use crate::printing::say;
+use kernel::answers::DONE;
 use records::accesses::AccessRead;
 use records::bindings::BindingRead;
 use records::delegations::DelegationRead;
@@ -240,7 +240,7 @@ pub fn show(
 )
     requires { ⌜ Opened (now table) (now keys) (now names) (now bindings) (now accesses) (now delegations) (now sheet) ⌝ }
 {
-    say_answer(GOOD);
+    say_answer(DONE);
     show_spaces(keys);
     show_bindings(table, keys, names, bindings, accesses, delegations, sheet);
     show_accesses(table, keys, names, bindings, accesses, delegations, sheet);

@@ -1,23 +1,20 @@
 // review translate TABLE OUT: writes the table's key table.
-use crate::answers::GOOD;
-use crate::answers::ROOM;
 use crate::answers::say_answer;
-use crate::answers::say_fault;
 use crate::answers::say_refusal;
 use crate::files::Part;
 use crate::files::read_file;
 use crate::files::write_file;
 use crate::printing::say;
 use crate::printing::say_count;
-use translation::Translated;
-use translation::translate;
+use kernel::answers::DONE;
+use kernel::rustamgheb_translate;
 
 // Writes the key table, and says so.
 fn done(key_table: &[u8]) {
     if !write_file(3, key_table) {
         return;
     }
-    say_answer(GOOD);
+    say_answer(DONE);
     say(b"0 Translated: the key table has ");
     say_count(key_table.len());
     say(b" bytes.\n");
@@ -26,11 +23,13 @@ fn done(key_table: &[u8]) {
 // Translates the table.
 fn answer(table: &[u8]) {
     let mut out = [0u8; 16384];
-    match translate(table, &mut out) {
-        Translated::Done(length) => done(&out[..length]),
-        Translated::BadTable(fault) => say_fault(fault),
-        Translated::Room => say_refusal(ROOM),
+    let told = rustamgheb_translate(table, &mut out);
+    if told.number != DONE {
+        say_refusal(told);
+        return;
     }
+    let length = told.length as usize;
+    done(&out[..length]);
 }
 
 // Reads the table, and translates it.

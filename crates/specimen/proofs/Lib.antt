@@ -1,3 +1,2 @@
--- The digits, and what is written to a buffer.
+-- The digits.
 mod DigitsLaws
-mod WrittenLaws

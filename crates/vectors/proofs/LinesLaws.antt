@@ -33,14 +33,14 @@ use Rattle.keytable.specs.Loading.{keyLoadedOf, keySectionsOf}
 use Rattle.keytable.specs.declared.KeySections.{KeySections}
 use Rattle.keytable.specs.declared.KeyLoaded.{KeyLoaded}
 use Rattle.keytable.specs.declared.KeyLoaded.the-variants as keyLoaded
-use Rattle.vectors.specs.Answers.{good, wrongRequest, notADerivation}
+use Rattle.kernel.specs.Answers.{done, wrongRequest, notADerivation}
 use Rattle.vectors.specs.Lines.{faultLine, tableLine, keyTableLine, wholeLine, requestLine, keyRequestLine, derivationLine}
 use Rattle.vectors.specs.declared.lines.Line.{Line}
 use Rattle.vectors.specs.declared.lines.Line.the-variants.{One, Three, Five}
 
 -- ---- tables
 abbrev pub countsLine : Sections → Line
-countsLine s = Five good (s .spaces .count) (s .bindings .count) (s .accesses .count) (s .delegations .count)
+countsLine s = Five done (s .spaces .count) (s .bindings .count) (s .accesses .count) (s .delegations .count)
 
 pub table-good : (p : Parsed table.Laid) (r : Loaded) (s : Sections) → r ≡ loadedOf p → r ≡ loaded.Good s → countsLine s ≡ tableLine p
 unfolding tableLine
@@ -54,7 +54,7 @@ table-bad (bad g) r f line e h q = let x : f ≡ g = cc in q ∙ ap faultLine x
 
 -- ---- key tables
 abbrev pub keyCountsLine : KeySections → Line
-keyCountsLine s = Three good (s .accesses .count) (s .delegations .count)
+keyCountsLine s = Three done (s .accesses .count) (s .delegations .count)
 
 pub key-table-good : (p : Parsed KeyLaid) (r : KeyLoaded) (s : KeySections) → r ≡ keyLoadedOf p → r ≡ keyLoaded.Good s → keyCountsLine s ≡ keyTableLine p
 unfolding keyTableLine
@@ -77,7 +77,7 @@ unfolding requestLine
 request-bad (got l at) r f b line e h q = let z : _≡_ {A = ℕ} 0 1 = cc in absurd (omega arith)
 request-bad (bad g) r f b line e h q = let x : f ≡ g = cc in q ∙ ap faultLine x
 
-pub request-some : (p : Option Request) (r : RequestRead) (v : RequestValue) → r ≡ requestRead p → r ≡ asRequest.Request v → One good ≡ wholeLine wrongRequest p
+pub request-some : (p : Option Request) (r : RequestRead) (v : RequestValue) → r ≡ requestRead p → r ≡ asRequest.Request v → One done ≡ wholeLine wrongRequest p
 unfolding wholeLine
 request-some (some x) r v e h = refl
 request-some none r v e h = let z : _≡_ {A = ℕ} 0 1 = cc in absurd (omega arith)
@@ -88,7 +88,7 @@ request-none (some x) r e h = let z : _≡_ {A = ℕ} 0 1 = cc in absurd (omega 
 request-none none r e h = refl
 
 -- ---- key requests
-pub key-request-some : (p : Option KeyRequest) (r : KeyRequestRead) (v : KeyRequestValue) → r ≡ keyRequestRead p → r ≡ asKeyRequest.KeyRequest v → One good ≡ keyRequestLine p
+pub key-request-some : (p : Option KeyRequest) (r : KeyRequestRead) (v : KeyRequestValue) → r ≡ keyRequestRead p → r ≡ asKeyRequest.KeyRequest v → One done ≡ keyRequestLine p
 unfolding wholeLine
 key-request-some (some x) r v e h = refl
 key-request-some none r v e h = let z : _≡_ {A = ℕ} 0 1 = cc in absurd (omega arith)
@@ -99,13 +99,13 @@ key-request-none (some x) r e h = let z : _≡_ {A = ℕ} 0 1 = cc in absurd (om
 key-request-none none r e h = refl
 
 -- ---- derivations
-pub derivation-some : (p : Option derivation.Laid) (r : DerivationRead) (v : Parts) → r ≡ derivationRead p → r ≡ asDerivation.Derivation v → Three good (v .bindings) (v .delegations + 1) ≡ derivationLine p
+pub derivation-some : (p : Option derivation.Laid) (r : DerivationRead) (v : Parts) → r ≡ derivationRead p → r ≡ asDerivation.Derivation v → Three done (v .bindings) (v .delegations + 1) ≡ derivationLine p
 unfolding derivationLine
 derivation-some (some l) r v e h =
     let x : partsOf l ≡ v = cc in
     let d = l .derivation .delegations in
     let y : length d + 1 ≡ suc (length d) = omega arith in
-    ap (λ (v : Parts). Three good (v .bindings) (v .delegations + 1)) (sym x) ∙ ap (λ (n : ℕ). Three good (length (l .derivation .bindings)) n) y
+    ap (λ (v : Parts). Three done (v .bindings) (v .delegations + 1)) (sym x) ∙ ap (λ (n : ℕ). Three done (length (l .derivation .bindings)) n) y
 derivation-some none r v e h = let z : _≡_ {A = ℕ} 0 1 = cc in absurd (omega arith)
 
 pub derivation-none : (p : Option derivation.Laid) (r : DerivationRead) → r ≡ derivationRead p → r ≡ asDerivation.Not → One notADerivation ≡ derivationLine p

@@ -10,34 +10,30 @@ use Rattle.records.specs.Requests.{readRequest}
 use Rattle.records.specs.declared.faults.Fault.{Fault}
 use Rattle.table.specs.ReadKeyTable.{KeyLaid}
 use Rattle.table.specs.ReadTable as table
-use Rattle.vectors.specs.Answers.{good, faultNumber, wrongRequest, notADerivation}
+use Rattle.kernel.specs.Answers.{done, faultNumber, wrongRequest, notADerivation}
 use Rattle.vectors.specs.declared.lines.Line.{Line}
-use Rattle.vectors.specs.declared.lines.Line.the-variants.{One, Two, Three, Four, Five}
+use Rattle.vectors.specs.declared.lines.Line.the-variants.{One, Two, Three, Five}
 
 -- A fault: its number and its offset.
 abbrev pub faultLine : Fault → Line
 faultLine e = Two (faultNumber (e .kind)) (e .place .offset)
 
--- A fault as an answer of four numbers: its number and its offset, and 0 for the depth and the length.
-abbrev pub faultAnswer : Fault → Line
-faultAnswer e = Four (faultNumber (e .kind)) (e .place .offset) 0 0
-
 -- A table: its counts, or its fault.
 unfoldable pub tableLine : Parsed table.Laid → Line
-tableLine (got l at) = Five good (length (l .spaces .records)) (length (l .bindings .records)) (length (l .accesses .records)) (length (l .delegations .records))
+tableLine (got l at) = Five done (length (l .spaces .records)) (length (l .bindings .records)) (length (l .accesses .records)) (length (l .delegations .records))
 tableLine (bad e) = faultLine e
 
 -- A key table: its counts, or its fault.
 unfoldable pub keyTableLine : Parsed KeyLaid → Line
-keyTableLine (got l at) = Three good (length (l .accesses .records)) (length (l .delegations .records))
+keyTableLine (got l at) = Three done (length (l .accesses .records)) (length (l .delegations .records))
 keyTableLine (bad e) = faultLine e
 
--- Whether something was read: the number of a good answer, or this one.
+-- Whether something was read: the number of a done answer, or this one.
 unfoldable pub wholeLine : {A : Type 0} → ℕ → Option A → Line
 wholeLine wrong none = One wrong
-wholeLine wrong (some x) = One good
+wholeLine wrong (some x) = One done
 
--- A request: the table's fault, or whether the request is good against it.
+-- A request: the table's fault, or whether the request is done against it.
 unfoldable pub requestLine : Parsed table.Laid → List ℕ → Line
 requestLine (got l at) s = wholeLine wrongRequest (readRequest (length (l .spaces .records)) s)
 requestLine (bad e) s = faultLine e
@@ -49,4 +45,4 @@ keyRequestLine = wholeLine wrongRequest
 -- A derivation: how many bindings it lists and how many records its chain has.
 unfoldable pub derivationLine : Option derivation.Laid → Line
 derivationLine none = One notADerivation
-derivationLine (some l) = Three good (length (l .derivation .bindings)) (suc (length (l .derivation .delegations)))
+derivationLine (some l) = Three done (length (l .derivation .bindings)) (suc (length (l .derivation .delegations)))

@@ -1,15 +1,9 @@
 // Kind 10: decides a request.
 ghost use mathlib.Core.Path.{_≡_};
 ghost use Prim.Native.Nat.{_*_, _≤_};
-ghost use lib.ListN.{length};
-ghost use Rattle.vectors.specs.Decisions.{decidedLine, shownOf, DecisionLine};
-use crate::answers::DENIED;
-use crate::answers::GOOD;
-use crate::answers::NO_ROOM;
-use crate::answers::OVERRUN;
-use crate::answers::UNNAMED;
-use crate::answers::WRONG_REQUEST;
-use crate::answers::fault_answer;
+ghost use lib.ListN.{length, drop};
+ghost use Rattle.kernel.specs.Promises.{TellsDecision};
+ghost use Rattle.vectors.specs.Hashes.{hashOf, numbersBytes};
 use crate::hashes::hash_of;
 use crate::hashes::hash_of_numbers;
 use crate::hashes::wide;
@@ -17,64 +11,33 @@ use crate::hashes::write_hash;
 use crate::hashes::write_hex;
 use crate::input::Part;
 use crate::input::read_part;
-use crate::lines::Line;
-use crate::lines::write_numbers;
-use decision::Decided;
-use decision::decide;
+use crate::lines::end_line;
+use crate::lines::write_answer;
+use kernel::answers::Answer;
+use kernel::rustamgheb_decide;
 use libc::STDOUT_FILENO;
 
-// What the line says: the numbers of the answer, the hash of the sheet, how many bytes are shown of the derivation, and the hash of those behind them.
+// What the line says: the answer, the hash of the whole sheet, and the hash of the bytes behind the derivation.
 pub struct Row {
-    pub line: Line,
+    pub answer: Answer,
     pub sheet: u32,
-    pub shown: usize,
     pub rest: u32,
-}
-
-// The numbers of the answer.
-fn decided_line(answer: Decided) -> Line
-    ensures { λ r. ⌜ r ≡ decidedLine answer ⌝ }
-{
-    match answer {
-        Decided::Granted(depth, length) => Line::Four(GOOD, 0, depth.number() as usize, length),
-        Decided::BadTable(fault) => fault_answer(fault),
-        Decided::BadRequest => Line::Four(WRONG_REQUEST, 0, 0, 0),
-        Decided::Room => Line::Four(NO_ROOM, 0, 0, 0),
-        Decided::Unnamed => Line::Four(UNNAMED, 0, 0, 0),
-        Decided::Denied => Line::Four(DENIED, 0, 0, 0),
-        Decided::Overrun => Line::Four(OVERRUN, 0, 0, 0),
-    }
-}
-
-// How many bytes are shown of the derivation: its length, if there is one.
-fn shown_of(answer: Decided) -> usize
-    ensures { λ r. ⌜ r ≡ shownOf answer ⌝ }
-{
-    match answer {
-        Decided::Granted(_, length) => length,
-        Decided::BadTable(_) => 0,
-        Decided::BadRequest => 0,
-        Decided::Room => 0,
-        Decided::Unnamed => 0,
-        Decided::Denied => 0,
-        Decided::Overrun => 0,
-    }
 }
 
 // The row of a request that is decided.
 fn row_of(table: &[u8], request: &[u8], sheet: &mut [u32], derivation: &mut [u8]) -> Row
-    ensures { λ r. ⌜ DecisionLine (now (table .entry)) (now (request .entry)) (now (sheet .entry)) (now (derivation .entry)) (r .line) (r .sheet) (r .shown) (r .rest) ⌝ }
-    ensures fits { λ r. ⌜ r .shown ≤ length (now (derivation .entry)) ⌝ }
+    ensures { λ r. ⌜ TellsDecision (now (table .entry)) (now (request .entry)) (now (sheet .entry)) (now (derivation .entry)) (r .answer) (now (sheet .exit)) (now (derivation .exit)) ⌝ }
+    ensures sheet { λ r. ⌜ r .sheet ≡ hashOf (numbersBytes (now (sheet .exit))) ⌝ }
+    ensures rest { λ r. ⌜ r .rest ≡ hashOf (drop (r .answer .length) (now (derivation .exit))) ⌝ }
+    ensures fits { λ r. ⌜ r .answer .length ≤ length (now (derivation .entry)) ⌝ }
 {
-    let answer = decide(table, request, sheet, derivation);
-    let line = decided_line(answer);
-    let shown = shown_of(answer);
+    let answer = rustamgheb_decide(table, request, sheet, derivation);
     let hash = hash_of_numbers(sheet);
-    let rest = hash_of(&derivation[shown..]);
+    let length = answer.length as usize;
+    let rest = hash_of(&derivation[length..]);
     Row {
-        line: line,
+        answer: answer,
         sheet: hash,
-        shown: shown,
         rest: rest,
     }
 }
@@ -98,18 +61,19 @@ fn read_numbers(bytes: &[u8], numbers: &mut [u32])
 
 // Writes the line: the derivation in digits, or a dash.
 fn write_row(row: Row, derivation: &[u8])
-    requires { ⌜ row .shown ≤ length (now derivation) ⌝ }
+    requires { ⌜ row .answer .length ≤ length (now derivation) ⌝ }
 {
-    let line = row.line;
-    write_numbers(line);
+    let answer = row.answer;
+    write_answer(answer);
     write_hash(row.sheet);
     write_hash(row.rest);
-    if row.shown == 0 {
+    let length = answer.length as usize;
+    if length == 0 {
         io::write_all(STDOUT_FILENO, b" -");
     } else {
-        write_hex(&derivation[..row.shown]);
+        write_hex(&derivation[..length]);
     }
-    io::write_all(STDOUT_FILENO, b"\n");
+    end_line();
 }
 
 // Decides with a sheet that holds these bytes before, and writes the line.

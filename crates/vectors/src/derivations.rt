@@ -2,12 +2,12 @@
 ghost use mathlib.Core.Path.{_≡_};
 ghost use Rattle.records.specs.DerivationBytes.{readDerivation};
 ghost use Rattle.vectors.specs.Lines.{derivationLine};
-use crate::answers::GOOD;
-use crate::answers::NOT_A_DERIVATION;
 use crate::input::Part;
 use crate::input::read_part;
 use crate::lines::Line;
 use crate::lines::write_line;
+use kernel::answers::DONE;
+use kernel::answers::NOT_A_DERIVATION;
 use records::derivations::DerivationRead;
 use records::derivations::read_derivation;
 
@@ -17,7 +17,7 @@ fn line_of(bytes: &[u8]) -> Line
 {
     match read_derivation(bytes) {
         DerivationRead::Derivation(parts) => Line::Three(
-            GOOD,
+            DONE,
             parts.bindings,
             parts.delegations + 1,
         ),

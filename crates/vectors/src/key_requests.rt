@@ -2,12 +2,12 @@
 ghost use mathlib.Core.Path.{_≡_};
 ghost use Rattle.records.specs.Requests.{readKeyRequest};
 ghost use Rattle.vectors.specs.Lines.{keyRequestLine};
-use crate::answers::GOOD;
-use crate::answers::WRONG_REQUEST;
 use crate::input::Part;
 use crate::input::read_part;
 use crate::lines::Line;
 use crate::lines::write_line;
+use kernel::answers::DONE;
+use kernel::answers::WRONG_REQUEST;
 use records::requests::KeyRequestRead;
 use records::requests::read_key_request;
 
@@ -16,7 +16,7 @@ fn line_of(bytes: &[u8]) -> Line
     ensures { λ r. ⌜ r ≡ keyRequestLine (readKeyRequest (now (bytes .entry))) ⌝ }
 {
     match read_key_request(bytes) {
-        KeyRequestRead::KeyRequest(_) => Line::One(GOOD),
+        KeyRequestRead::KeyRequest(_) => Line::One(DONE),
         KeyRequestRead::Not => Line::One(WRONG_REQUEST),
     }
 }

@@ -2,12 +2,12 @@
 ghost use mathlib.Core.Path.{_≡_};
 ghost use Rattle.table.specs.ReadKeyTable.{readKeyTable};
 ghost use Rattle.vectors.specs.Lines.{keyTableLine};
-use crate::answers::GOOD;
-use crate::answers::fault_line;
 use crate::input::Part;
 use crate::input::read_part;
 use crate::lines::Line;
+use crate::lines::fault_line;
 use crate::lines::write_line;
+use kernel::answers::DONE;
 use keytable::KeyLoaded;
 use keytable::load_key_table;
 
@@ -19,7 +19,7 @@ fn line_of(bytes: &[u8]) -> Line
         KeyLoaded::Good(sections) => {
             let accesses = sections.accesses;
             let delegations = sections.delegations;
-            Line::Three(GOOD, accesses.count, delegations.count)
+            Line::Three(DONE, accesses.count, delegations.count)
         }
         KeyLoaded::Bad(fault) => fault_line(fault),
     }

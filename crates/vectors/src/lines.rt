@@ -1,24 +1,30 @@
-// Answer lines: decimal numbers with one space between them.
-use crate::hashes::write_hash;
+// Answer lines: decimal numbers with one space between them, an answer's number first.
+ghost use mathlib.Core.Path.{_≡_};
+ghost use Rattle.vectors.specs.Lines.{faultLine};
+use kernel::answers::Answer;
+use kernel::answers::number_of;
 use libc::STDOUT_FILENO;
+use records::faults::Fault;
 
 // The numbers of a line.
 pub enum Line {
-    One(usize),
-    Two(usize, usize),
-    Three(usize, usize, usize),
-    Four(usize, usize, usize, usize),
-    Five(usize, usize, usize, usize, usize),
+    One(u32),
+    Two(u32, usize),
+    Three(u32, usize, usize),
+    Five(u32, usize, usize, usize, usize),
 }
 
-// The numbers of a line, and a hash behind them.
-pub struct HashedLine {
-    pub line: Line,
-    pub hash: u32,
+// The line of a fault: its number and its offset.
+pub fn fault_line(fault: Fault) -> Line
+    ensures { λ r. ⌜ r ≡ faultLine fault ⌝ }
+{
+    let kind = fault.kind;
+    let place = fault.place;
+    Line::Two(number_of(kind), place.offset)
 }
 
 // Writes the first number of a line.
-fn write_first(number: usize) {
+fn write_first(number: u32) {
     io::print_decimal(STDOUT_FILENO, number as u64);
 }
 
@@ -28,8 +34,13 @@ fn write_next(number: usize) {
     io::print_decimal(STDOUT_FILENO, number as u64);
 }
 
-// Writes the numbers of a line.
-pub fn write_numbers(line: Line) {
+// Ends the line.
+pub fn end_line() {
+    io::write_all(STDOUT_FILENO, b"\n");
+}
+
+// Writes the line.
+pub fn write_line(line: Line) {
     match line {
         Line::One(first) => {
             write_first(first);
@@ -43,12 +54,6 @@ pub fn write_numbers(line: Line) {
             write_next(second);
             write_next(third);
         }
-        Line::Four(first, second, third, fourth) => {
-            write_first(first);
-            write_next(second);
-            write_next(third);
-            write_next(fourth);
-        }
         Line::Five(first, second, third, fourth, fifth) => {
             write_first(first);
             write_next(second);
@@ -57,20 +62,21 @@ pub fn write_numbers(line: Line) {
             write_next(fifth);
         }
     }
+    end_line();
 }
 
-// Writes the line.
-pub fn write_line(line: Line) {
-    write_numbers(line);
-    io::write_all(STDOUT_FILENO, b"\n");
+// Writes the numbers of an answer: its number, offset, depth and length.
+pub fn write_answer(answer: Answer) {
+    write_first(answer.number);
+    write_next(answer.offset as usize);
+    write_next(answer.depth as usize);
+    write_next(answer.length as usize);
 }
 
-// Writes the line, with its hash.
-pub fn write_hashed_line(hashed: HashedLine) {
-    let line = hashed.line;
-    write_numbers(line);
-    write_hash(hashed.hash);
-    io::write_all(STDOUT_FILENO, b"\n");
+// Writes the line of an answer.
+pub fn write_answer_line(answer: Answer) {
+    write_answer(answer);
+    end_line();
 }
 
 // Writes further numbers of a line.
@@ -83,8 +89,8 @@ fn write_all_next(numbers: &[u32]) {
 }
 
 // Writes a line of a number and a row of numbers.
-pub fn write_row(first: usize, numbers: &[u32]) {
+pub fn write_row(first: u32, numbers: &[u32]) {
     write_first(first);
     write_all_next(numbers);
-    io::write_all(STDOUT_FILENO, b"\n");
+    end_line();
 }

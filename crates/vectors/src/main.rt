@@ -2,7 +2,6 @@
 use crate::input::stopped;
 use libc::STDIN_FILENO;
 
-mod answers;
 mod checks;
 mod decisions;
 mod derivations;

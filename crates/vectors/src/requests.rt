@@ -2,13 +2,13 @@
 ghost use mathlib.Core.Path.{_≡_};
 ghost use Rattle.table.specs.ReadTable.{readTable};
 ghost use Rattle.vectors.specs.Lines.{requestLine};
-use crate::answers::GOOD;
-use crate::answers::WRONG_REQUEST;
-use crate::answers::fault_line;
 use crate::input::Part;
 use crate::input::read_part;
 use crate::lines::Line;
+use crate::lines::fault_line;
 use crate::lines::write_line;
+use kernel::answers::DONE;
+use kernel::answers::WRONG_REQUEST;
 use records::requests::RequestRead;
 use records::requests::read_request;
 use table::Loaded;
@@ -22,7 +22,7 @@ fn line_of(bytes: &[u8], request: &[u8]) -> Line
         Loaded::Good(sections) => {
             let spaces = sections.spaces;
             match read_request(request, spaces.count) {
-                RequestRead::Request(_) => Line::One(GOOD),
+                RequestRead::Request(_) => Line::One(DONE),
                 RequestRead::Not => Line::One(WRONG_REQUEST),
             }
         }

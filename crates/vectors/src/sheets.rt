@@ -3,12 +3,12 @@ ghost use Prim.Native.Nat.{_≤_};
 ghost use lib.ListN.{length};
 ghost use Rattle.rules.specs.Ranges.{mostBindings};
 ghost use Rattle.vectors.specs.Sheets.{SheetOf};
-use crate::answers::GOOD;
-use crate::answers::fault_line;
 use crate::input::Part;
 use crate::input::read_part;
+use crate::lines::fault_line;
 use crate::lines::write_line;
 use crate::lines::write_row;
+use kernel::answers::DONE;
 use records::faults::Fault;
 use sheet::filling::fill;
 use table::Loaded;
@@ -64,7 +64,7 @@ pub fn answer() -> bool {
     let mut sheet = [7u32; 256];
     let mut order = [0u16; 256];
     match fill_sheet(&buffer[..length], &mut sheet, &mut order) {
-        SheetRead::Entries(count) => write_row(GOOD, &sheet[..count]),
+        SheetRead::Entries(count) => write_row(DONE, &sheet[..count]),
         SheetRead::Bad(fault) => write_line(fault_line(fault)),
     }
     true

@@ -2,12 +2,12 @@
 ghost use mathlib.Core.Path.{_≡_};
 ghost use Rattle.table.specs.ReadTable.{readTable};
 ghost use Rattle.vectors.specs.Lines.{tableLine};
-use crate::answers::GOOD;
-use crate::answers::fault_line;
 use crate::input::Part;
 use crate::input::read_part;
 use crate::lines::Line;
+use crate::lines::fault_line;
 use crate::lines::write_line;
+use kernel::answers::DONE;
 use table::Loaded;
 use table::load;
 
@@ -22,7 +22,7 @@ fn line_of(bytes: &[u8]) -> Line
             let accesses = sections.accesses;
             let delegations = sections.delegations;
             Line::Five(
-                GOOD,
+                DONE,
                 spaces.count,
                 bindings.count,
                 accesses.count,

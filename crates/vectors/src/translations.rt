@@ -1,39 +1,40 @@
 // Kind 12: translates a table.
 ghost use mathlib.Core.Path.{_≡_};
-ghost use Rattle.vectors.specs.Translations.{translatedLine, TranslationLine};
-use crate::answers::GOOD;
-use crate::answers::NO_ROOM;
-use crate::answers::fault_answer;
+ghost use Rattle.kernel.specs.Promises.{TellsTranslation};
+ghost use Rattle.vectors.specs.Hashes.{hashOf};
 use crate::hashes::hash_of;
+use crate::hashes::write_hash;
 use crate::input::Part;
 use crate::input::read_part;
-use crate::lines::HashedLine;
-use crate::lines::Line;
-use crate::lines::write_hashed_line;
-use translation::Translated;
-use translation::translate;
+use crate::lines::end_line;
+use crate::lines::write_answer;
+use kernel::answers::Answer;
+use kernel::rustamgheb_translate;
 
-// The numbers of the answer.
-fn translated_line(answer: Translated) -> Line
-    ensures { λ r. ⌜ r ≡ translatedLine answer ⌝ }
+// What the line says: the answer, and the hash of the whole buffer.
+pub struct Row {
+    pub answer: Answer,
+    pub buffer: u32,
+}
+
+// The row of a table that is translated.
+fn row_of(table: &[u8], buffer: &mut [u8]) -> Row
+    ensures { λ r. ⌜ TellsTranslation (now (table .entry)) (now (buffer .entry)) (r .answer) (now (buffer .exit)) × (r .buffer ≡ hashOf (now (buffer .exit))) ⌝ }
 {
-    match answer {
-        Translated::Done(length) => Line::Four(GOOD, 0, 0, length),
-        Translated::BadTable(fault) => fault_answer(fault),
-        Translated::Room => Line::Four(NO_ROOM, 0, 0, 0),
+    let answer = rustamgheb_translate(table, buffer);
+    let hash = hash_of(buffer);
+    Row {
+        answer: answer,
+        buffer: hash,
     }
 }
 
-// The line of a table that is translated: what is answered, and the hash of the buffer then.
-fn line_of(table: &[u8], buffer: &mut [u8]) -> HashedLine
-    ensures { λ r. ⌜ TranslationLine (now (table .entry)) (now (buffer .entry)) (r .line) (r .hash) ⌝ }
-{
-    let line = translated_line(translate(table, buffer));
-    let hash = hash_of(buffer);
-    HashedLine {
-        line: line,
-        hash: hash,
-    }
+// Writes the line.
+fn write_row(row: Row) {
+    let answer = row.answer;
+    write_answer(answer);
+    write_hash(row.buffer);
+    end_line();
 }
 
 // Answers the case, and says whether to go on.
@@ -46,6 +47,6 @@ pub fn answer() -> bool {
     let Part::Whole(length) = read_part(&mut second) else {
         return false;
     };
-    write_hashed_line(line_of(&first[..table], &mut second[..length]));
+    write_row(row_of(&first[..table], &mut second[..length]));
     true
 }

@@ -2,7 +2,9 @@
 use mathlib.Core.Path.{sym}
 use native.Mathlib.Omega.{arith}
 use lib.Seq.{length-take-le}
-use Rattle.matching.proofs.HeldLaws.{read-table, few-spaces-read, few-bindings-read, few-accesses-read, few-delegations-read, known-read, held-read}
+use Rattle.matching.proofs.HeldLaws.{read-bad, read-table, few-spaces-read, few-bindings-read, few-accesses-read, few-delegations-read, known-read, held-read}
+use Rattle.kernel.proofs.FitsLaws.{fault-fits}
+use Rattle.kernel.proofs.PlacesLaws.{table-fault}
 use borrow.Author.Needs.{needs}
 use Rattle.review.proofs.opening.open.Statement.{statement}
 use Rattle.review.proofs.opening.open.Tie as tie
@@ -61,8 +63,11 @@ open-good-requires c κs = (known-read _ (record { small = λ i. c .before .befo
 enum-known-fault : tie.Need-enum-known-fault
 enum-known-fault c = search needs
 
-say-fault-requires : tie.Need-say-fault-requires
-say-fault-requires c κs = search needs
+of-fault-requires : tie.Need-of-fault-requires
+of-fault-requires c κs = fault-fits (c .before .fault .given .0 .0) (table-fault _ _ (read-bad _ _ _ (c .before .before .before .before .before .before .before .before .load-index .ensures .0) (c .before .fault .given .1)))
+
+say-refusal-requires : tie.Need-say-refusal-requires
+say-refusal-requires c κs = search needs
 
 returns : tie.Need-returns
 returns c = search needs
@@ -92,6 +97,7 @@ open-spec =
     slice-aggregate-open-good-5
     open-good-requires
     enum-known-fault
-    say-fault-requires
+    of-fault-requires
+    say-refusal-requires
     returns
     returns-2)

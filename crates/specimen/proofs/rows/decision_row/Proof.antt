@@ -2,7 +2,7 @@
 use mathlib.Core.Path.{sym}
 use lib.Seq.{length-take-le}
 use native.Mathlib.Omega.{arith}
-use Rattle.specimen.proofs.WrittenLaws.{derivation-written}
+use Rattle.kernel.proofs.WrittenLaws.{derivation-written}
 use borrow.Author.Needs.{needs}
 use Rattle.specimen.proofs.rows.decision_row.Statement.{statement}
 use Rattle.specimen.proofs.rows.decision_row.Tie as tie

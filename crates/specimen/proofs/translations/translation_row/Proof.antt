@@ -2,7 +2,7 @@
 use mathlib.Core.Path.{sym}
 use native.Mathlib.Omega.{arith}
 use lib.Seq.{length-take-le}
-use Rattle.specimen.proofs.WrittenLaws.{key-table-written}
+use Rattle.kernel.proofs.WrittenLaws.{key-table-written}
 use borrow.Author.Needs.{needs}
 use Rattle.specimen.proofs.translations.translation_row.Statement.{statement}
 use Rattle.specimen.proofs.translations.translation_row.Tie as tie

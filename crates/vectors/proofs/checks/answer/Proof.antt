@@ -61,26 +61,26 @@ returns-3 c = search needs
 array-share-prefix-first : tie.Need-array-share-prefix-first
 array-share-prefix-first c = whole-fits _ _ _ (c .before .before .before .before .before .before .before .before .before .before .before .before .before .before .before .before .before .before .read-part .ensures) (c .before .before .before .before .before .before .before .before .before .before .before .before .before .before .before .table .given .1) .0
 
-slice-aggregate-line-of : tie.Need-slice-aggregate-line-of
-slice-aggregate-line-of c = whole-fits _ _ _ (c .before .before .before .before .before .before .before .before .before .before .before .before .before .before .before .before .before .before .before .read-part .ensures) (c .before .before .before .before .before .before .before .before .before .before .before .before .before .before .before .before .table .given .1) .1
+slice-aggregate-rustamgheb-check : tie.Need-slice-aggregate-rustamgheb-check
+slice-aggregate-rustamgheb-check c = whole-fits _ _ _ (c .before .before .before .before .before .before .before .before .before .before .before .before .before .before .before .before .before .before .before .read-part .ensures) (c .before .before .before .before .before .before .before .before .before .before .before .before .before .before .before .before .table .given .1) .1
 
 array-share-prefix-second : tie.Need-array-share-prefix-second
 array-share-prefix-second c = whole-fits _ _ _ (c .before .before .before .before .before .before .before .before .before .before .before .before .read-part2 .ensures) (c .before .before .before .before .before .before .before .before .before .request .given .1) .0
 
-slice-aggregate-line-of-2 : tie.Need-slice-aggregate-line-of-2
-slice-aggregate-line-of-2 c = whole-fits _ _ _ (c .before .before .before .before .before .before .before .before .before .before .before .before .before .read-part2 .ensures) (c .before .before .before .before .before .before .before .before .before .before .request .given .1) .1
+slice-aggregate-rustamgheb-check-2 : tie.Need-slice-aggregate-rustamgheb-check-2
+slice-aggregate-rustamgheb-check-2 c = whole-fits _ _ _ (c .before .before .before .before .before .before .before .before .before .before .before .before .before .read-part2 .ensures) (c .before .before .before .before .before .before .before .before .before .before .request .given .1) .1
 
 array-share-prefix-third : tie.Need-array-share-prefix-third
 array-share-prefix-third c = whole-fits _ _ _ (c .before .before .before .before .before .before .read-part3 .ensures) (c .before .before .before .derivation .given .1) .0
 
-slice-aggregate-line-of-3 : tie.Need-slice-aggregate-line-of-3
-slice-aggregate-line-of-3 c = whole-fits _ _ _ (c .before .before .before .before .before .before .before .read-part3 .ensures) (c .before .before .before .before .derivation .given .1) .1
+slice-aggregate-rustamgheb-check-3 : tie.Need-slice-aggregate-rustamgheb-check-3
+slice-aggregate-rustamgheb-check-3 c = whole-fits _ _ _ (c .before .before .before .before .before .before .before .read-part3 .ensures) (c .before .before .before .before .derivation .given .1) .1
 
-line-of-requires : tie.Need-line-of-requires
-line-of-requires c κs = search needs
+rustamgheb-check-requires : tie.Need-rustamgheb-check-requires
+rustamgheb-check-requires c κs = search needs
 
-write-line-requires : tie.Need-write-line-requires
-write-line-requires c κs = search needs
+write-answer-line-requires : tie.Need-write-answer-line-requires
+write-answer-line-requires c κs = search needs
 
 returns-4 : tie.Need-returns-4
 returns-4 c = search needs
@@ -108,11 +108,11 @@ answer-spec =
     enum-told-3
     returns-3
     array-share-prefix-first
-    slice-aggregate-line-of
+    slice-aggregate-rustamgheb-check
     array-share-prefix-second
-    slice-aggregate-line-of-2
+    slice-aggregate-rustamgheb-check-2
     array-share-prefix-third
-    slice-aggregate-line-of-3
-    line-of-requires
-    write-line-requires
+    slice-aggregate-rustamgheb-check-3
+    rustamgheb-check-requires
+    write-answer-line-requires
     returns-4)

@@ -43,20 +43,20 @@ returns-2 c = search needs
 array-share-prefix-first : tie.Need-array-share-prefix-first
 array-share-prefix-first c = whole-fits _ _ _ (c .before .before .before .before .before .before .before .before .before .before .before .read-part .ensures) (c .before .before .before .before .before .before .before .before .table .given .1) .0
 
-slice-aggregate-line-of : tie.Need-slice-aggregate-line-of
-slice-aggregate-line-of c = whole-fits _ _ _ (c .before .before .before .before .before .before .before .before .before .before .before .before .read-part .ensures) (c .before .before .before .before .before .before .before .before .before .table .given .1) .1
+slice-aggregate-rustamgheb-decide-by-keys : tie.Need-slice-aggregate-rustamgheb-decide-by-keys
+slice-aggregate-rustamgheb-decide-by-keys c = whole-fits _ _ _ (c .before .before .before .before .before .before .before .before .before .before .before .before .read-part .ensures) (c .before .before .before .before .before .before .before .before .before .table .given .1) .1
 
 array-share-prefix-second : tie.Need-array-share-prefix-second
 array-share-prefix-second c = whole-fits _ _ _ (c .before .before .before .before .before .read-part2 .ensures) (c .before .before .request .given .1) .0
 
-slice-aggregate-line-of-2 : tie.Need-slice-aggregate-line-of-2
-slice-aggregate-line-of-2 c = whole-fits _ _ _ (c .before .before .before .before .before .before .read-part2 .ensures) (c .before .before .before .request .given .1) .1
+slice-aggregate-rustamgheb-decide-by-keys-2 : tie.Need-slice-aggregate-rustamgheb-decide-by-keys-2
+slice-aggregate-rustamgheb-decide-by-keys-2 c = whole-fits _ _ _ (c .before .before .before .before .before .before .read-part2 .ensures) (c .before .before .before .request .given .1) .1
 
-line-of-requires : tie.Need-line-of-requires
-line-of-requires c κs = search needs
+rustamgheb-decide-by-keys-requires : tie.Need-rustamgheb-decide-by-keys-requires
+rustamgheb-decide-by-keys-requires c κs = search needs
 
-write-line-requires : tie.Need-write-line-requires
-write-line-requires c κs = search needs
+write-answer-line-requires : tie.Need-write-answer-line-requires
+write-answer-line-requires c κs = search needs
 
 returns-3 : tie.Need-returns-3
 returns-3 c = search needs
@@ -78,9 +78,9 @@ answer-spec =
     enum-told-2
     returns-2
     array-share-prefix-first
-    slice-aggregate-line-of
+    slice-aggregate-rustamgheb-decide-by-keys
     array-share-prefix-second
-    slice-aggregate-line-of-2
-    line-of-requires
-    write-line-requires
+    slice-aggregate-rustamgheb-decide-by-keys-2
+    rustamgheb-decide-by-keys-requires
+    write-answer-line-requires
     returns-3)

@@ -43,20 +43,20 @@ returns-2 c = search needs
 array-share-prefix-first : tie.Need-array-share-prefix-first
 array-share-prefix-first c = whole-fits _ _ _ (c .before .before .before .before .before .before .before .before .before .before .before .read-part .ensures) (c .before .before .before .before .before .before .before .before .table .given .1) .0
 
-slice-aggregate-line-of : tie.Need-slice-aggregate-line-of
-slice-aggregate-line-of c = whole-fits _ _ _ (c .before .before .before .before .before .before .before .before .before .before .before .before .read-part .ensures) (c .before .before .before .before .before .before .before .before .before .table .given .1) .1
+slice-aggregate-row-of : tie.Need-slice-aggregate-row-of
+slice-aggregate-row-of c = whole-fits _ _ _ (c .before .before .before .before .before .before .before .before .before .before .before .before .read-part .ensures) (c .before .before .before .before .before .before .before .before .before .table .given .1) .1
 
 array-borrow-prefix-second : tie.Need-array-borrow-prefix-second
 array-borrow-prefix-second c = whole-fits _ _ _ (c .before .before .before .before .before .read-part2 .ensures) (c .before .before .length .given .1) .0
 
-slice-aggregate-line-of-2 : tie.Need-slice-aggregate-line-of-2
-slice-aggregate-line-of-2 c = whole-fits _ _ _ (c .before .before .before .before .before .before .read-part2 .ensures) (c .before .before .before .length .given .1) .1
+slice-aggregate-row-of-2 : tie.Need-slice-aggregate-row-of-2
+slice-aggregate-row-of-2 c = whole-fits _ _ _ (c .before .before .before .before .before .before .read-part2 .ensures) (c .before .before .before .length .given .1) .1
 
-line-of-requires : tie.Need-line-of-requires
-line-of-requires c κs = search needs
+row-of-requires : tie.Need-row-of-requires
+row-of-requires c κs = search needs
 
-write-hashed-line-requires : tie.Need-write-hashed-line-requires
-write-hashed-line-requires c κs = search needs
+write-row-requires : tie.Need-write-row-requires
+write-row-requires c κs = search needs
 
 returns-3 : tie.Need-returns-3
 returns-3 c = search needs
@@ -78,9 +78,9 @@ answer-spec =
     enum-told-2
     returns-2
     array-share-prefix-first
-    slice-aggregate-line-of
+    slice-aggregate-row-of
     array-borrow-prefix-second
-    slice-aggregate-line-of-2
-    line-of-requires
-    write-hashed-line-requires
+    slice-aggregate-row-of-2
+    row-of-requires
+    write-row-requires
     returns-3)

@@ -1,35 +1,29 @@
 -- What a host is told was written stands within the buffer that it lent.
-use mathlib.Core.Path.{_≡_, ap}
+use mathlib.Core.Path.{ap}
 use mathlib.Core.List.{List}
-use mathlib.Core.Option.{some}
 use Prim.Native.Nat.{ℕ, _≤_}
 use native.Mathlib.Omega.{arith}
 use lib.ListN.{length}
 use Rattle.rules.specs.Tables.{Table}
 use Rattle.wire.specs.Number.{Bytes}
-use Rattle.records.specs.DerivationBytes.{Laid, derivationFields, readDerivation, mostDerivation}
-use Rattle.records.proofs.RequestsForm.{whole-form}
 use Rattle.decision.specs.Promise as decides
 use Rattle.decision.specs.declared.Decided.{Decided}
 use Rattle.translation.specs.Promise as translates
 use Rattle.translation.specs.declared.Translated.{Translated}
 use Rattle.translation.proofs.Theorems.{translation-loads}
 use Rattle.kernel.specs.Answers.{ofDecided, ofTranslated}
 use Rattle.kernel.specs.Promises.{TellsDecision, TellsTranslation}
 use Rattle.kernel.specs.declared.answers.Answer.{Answer}
+use Rattle.kernel.proofs.FitsLaws.{derivation-fits}
 
 -- ---- a derivation
-derivation-short : (s : List ℕ) (l : Laid) → readDerivation s ≡ some l → length s ≤ mostDerivation
-unfolding readDerivation
-derivation-short s l e = whole-form mostDerivation derivationFields s l e .0
-
 good-written : {t : Table} {request sheet₀ derivation₀ : List ℕ} {a : Decided} {sheet derivation : List ℕ} → decides.DecidesGood t request sheet₀ derivation₀ a sheet derivation
     → ofDecided a .length ≤ length derivation₀
 good-written (decides.badRequest e) = omega arith
 good-written (decides.room e h) = omega arith
 good-written (decides.unnamed ready n) = omega arith
 good-written (decides.denied ready m h) = omega arith
-good-written (decides.granted {bytes = bytes} ready m h holds) = omega (arith, derivation-short bytes (holds .laid) (holds .read), ready .roomForDerivation)
+good-written (decides.granted {bytes = bytes} ready m h holds) = omega (arith, derivation-fits bytes (holds .laid) (holds .read), ready .roomForDerivation)
 good-written (decides.overrun ready m h x l) = omega arith
 
 decided-written : {table request sheet₀ derivation₀ : List ℕ} {a : Decided} {sheet derivation : List ℕ} → decides.Decides table request sheet₀ derivation₀ a sheet derivation
