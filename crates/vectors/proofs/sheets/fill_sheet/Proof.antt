@@ -2,7 +2,8 @@
 use mathlib.Core.Path.{sym}
 use native.Mathlib.Omega.{arith}
 use lib.Seq.{length-take-le}
-use Rattle.vectors.proofs.SheetsLaws.{read-good, few-spaces, few-bindings, table-known, sheet-filled, sheet-bad}
+use Rattle.matching.proofs.HeldLaws.{read-table, few-spaces-read, few-bindings-read, known-read}
+use Rattle.vectors.proofs.SheetsLaws.{sheet-filled, sheet-bad}
 use borrow.Author.Needs.{needs}
 use Rattle.vectors.proofs.sheets.fill_sheet.Statement.{statement}
 use Rattle.vectors.proofs.sheets.fill_sheet.Tie as tie
@@ -29,22 +30,22 @@ enum-known-sections : tie.Need-enum-known-sections
 enum-known-sections c = search needs
 
 array-share-prefix-keys : tie.Need-array-share-prefix-keys
-array-share-prefix-keys c = let h = few-spaces _ (record { small = λ i. c .before .before .before .before .before .before .before .before .before .before .before .before .before .before .before .before .before .before .shared-slice-known .given i .fits }) _ (read-good _ _ _ (c .before .before .before .before .before .before .before .before .before .before .load-index .ensures .0) (c .before .before .before .sections .given .1)) in omega (arith, h, c .before .before .before .before .before .before .before .before .before .keys2 .given)
+array-share-prefix-keys c = let h = few-spaces-read _ (record { small = λ i. c .before .before .before .before .before .before .before .before .before .before .before .before .before .before .before .before .before .before .shared-slice-known .given i .fits }) _ (read-table _ _ _ (c .before .before .before .before .before .before .before .before .before .before .load-index .ensures .0) (c .before .before .before .sections .given .1)) in omega (arith, h, c .before .before .before .before .before .before .before .before .before .keys2 .given)
 
 slice-aggregate-fill : tie.Need-slice-aggregate-fill
-slice-aggregate-fill c = let h = few-spaces _ (record { small = λ i. c .before .before .before .before .before .before .before .before .before .before .before .before .before .before .before .before .before .before .before .shared-slice-known .given i .fits }) _ (read-good _ _ _ (c .before .before .before .before .before .before .before .before .before .before .before .load-index .ensures .0) (c .before .before .before .before .sections .given .1)) in sym (length-take-le (c .before .before .before .before .sections .given .0 .0 .spaces .count) (c .before .before .before .before .before .before .before .before .before .before .before .load-index .last .1 .0) (omega (arith, h, c .before .before .before .before .before .before .before .before .before .before .keys2 .given)))
+slice-aggregate-fill c = let h = few-spaces-read _ (record { small = λ i. c .before .before .before .before .before .before .before .before .before .before .before .before .before .before .before .before .before .before .before .shared-slice-known .given i .fits }) _ (read-table _ _ _ (c .before .before .before .before .before .before .before .before .before .before .before .load-index .ensures .0) (c .before .before .before .before .sections .given .1)) in sym (length-take-le (c .before .before .before .before .sections .given .0 .0 .spaces .count) (c .before .before .before .before .before .before .before .before .before .before .before .load-index .last .1 .0) (omega (arith, h, c .before .before .before .before .before .before .before .before .before .before .keys2 .given)))
 
 array-share-prefix-names : tie.Need-array-share-prefix-names
-array-share-prefix-names c = let h = few-bindings _ (record { small = λ i. c .before .before .before .before .before .before .before .before .before .before .before .before .before .before .before .before .before .before .before .shared-slice-known .given i .fits }) _ (read-good _ _ _ (c .before .before .before .before .before .before .before .before .before .before .before .load-index .ensures .0) (c .before .before .before .before .sections .given .1)) in omega (arith, h, c .before .before .before .before .before .before .before .before .before .names2 .given)
+array-share-prefix-names c = let h = few-bindings-read _ (record { small = λ i. c .before .before .before .before .before .before .before .before .before .before .before .before .before .before .before .before .before .before .before .shared-slice-known .given i .fits }) _ (read-table _ _ _ (c .before .before .before .before .before .before .before .before .before .before .before .load-index .ensures .0) (c .before .before .before .before .sections .given .1)) in omega (arith, h, c .before .before .before .before .before .before .before .before .before .names2 .given)
 
 slice-aggregate-fill-2 : tie.Need-slice-aggregate-fill-2
-slice-aggregate-fill-2 c = let h = few-bindings _ (record { small = λ i. c .before .before .before .before .before .before .before .before .before .before .before .before .before .before .before .before .before .before .before .before .shared-slice-known .given i .fits }) _ (read-good _ _ _ (c .before .before .before .before .before .before .before .before .before .before .before .before .load-index .ensures .0) (c .before .before .before .before .before .sections .given .1)) in sym (length-take-le (c .before .before .before .before .before .sections .given .0 .0 .bindings .count) (c .before .before .before .before .before .before .before .before .before .before .before .before .load-index .last .1 .1 .0) (omega (arith, h, c .before .before .before .before .before .before .before .before .before .before .names2 .given)))
+slice-aggregate-fill-2 c = let h = few-bindings-read _ (record { small = λ i. c .before .before .before .before .before .before .before .before .before .before .before .before .before .before .before .before .before .before .before .before .shared-slice-known .given i .fits }) _ (read-table _ _ _ (c .before .before .before .before .before .before .before .before .before .before .before .before .load-index .ensures .0) (c .before .before .before .before .before .sections .given .1)) in sym (length-take-le (c .before .before .before .before .before .sections .given .0 .0 .bindings .count) (c .before .before .before .before .before .before .before .before .before .before .before .before .load-index .last .1 .1 .0) (omega (arith, h, c .before .before .before .before .before .before .before .before .before .before .names2 .given)))
 
 slice-aggregate-fill-3 : tie.Need-slice-aggregate-fill-3
 slice-aggregate-fill-3 c = search needs
 
 fill-requires : tie.Need-fill-requires
-fill-requires c κs = let read = read-good _ _ _ (c .before .before .before .before .before .before .before .before .before .before .before .before .before .before .before .load-index .ensures .0) (c .before .before .before .before .before .before .before .before .sections .given .1) in let h = few-bindings _ (record { small = λ i. c .before .before .before .before .before .before .before .before .before .before .before .before .before .before .before .before .before .before .before .before .before .before .before .shared-slice-known .given i .fits }) _ read in let n = length-take-le (c .before .before .before .before .before .before .before .before .sections .given .0 .0 .bindings .count) (c .before .before .before .before .before .before .before .before .before .before .before .before .before .before .before .load-index .last .1 .1 .0) (omega (arith, h, c .before .before .before .before .before .before .before .before .before .before .before .before .before .names2 .given)) in (table-known _ (record { small = λ i. c .before .before .before .before .before .before .before .before .before .before .before .before .before .before .before .before .before .before .before .before .before .before .before .shared-slice-known .given i .fits }) _ read (c .before .before .before .before .before .before .before .before .before .before .before .before .before .before .before .load-index .last .1 .0) (c .before .before .before .before .before .before .before .before .before .before .before .before .before .before .before .load-index .last .1 .1 .0) (c .before .before .before .before .before .before .before .before .before .before .before .before .before .before .before .load-index .last .1 .1 .1 .0) (c .before .before .before .before .before .before .before .before .before .before .before .before .before .before .before .load-index .last .1 .1 .1 .1 .0) (c .before .before .before .before .before .before .before .before .before .before .before .before .before .before .before .load-index .last .1 .1 .1 .1 .1 .0) (c .before .before .before .before .before .before .before .before .before .before .before .before .before .before .before .load-index .ensures .1) (omega (arith, c .before .before .before .before .before .before .before .before .before .before .before .before .bindings2 .given)), omega (arith, n, h, c .before .before .before .before .before .before .before .before .before .before .before .before .before .before .before .before .before .before .before .before .before .before .before .before .pre .0), omega (arith, n, h, c .before .before .before .before .before .before .before .before .before .before .before .before .before .before .before .before .before .before .before .before .before .before .before .before .pre .1))
+fill-requires c κs = let read = read-table _ _ _ (c .before .before .before .before .before .before .before .before .before .before .before .before .before .before .before .load-index .ensures .0) (c .before .before .before .before .before .before .before .before .sections .given .1) in let h = few-bindings-read _ (record { small = λ i. c .before .before .before .before .before .before .before .before .before .before .before .before .before .before .before .before .before .before .before .before .before .before .before .shared-slice-known .given i .fits }) _ read in let n = length-take-le (c .before .before .before .before .before .before .before .before .sections .given .0 .0 .bindings .count) (c .before .before .before .before .before .before .before .before .before .before .before .before .before .before .before .load-index .last .1 .1 .0) (omega (arith, h, c .before .before .before .before .before .before .before .before .before .before .before .before .before .names2 .given)) in (known-read _ (record { small = λ i. c .before .before .before .before .before .before .before .before .before .before .before .before .before .before .before .before .before .before .before .before .before .before .before .shared-slice-known .given i .fits }) _ read (c .before .before .before .before .before .before .before .before .before .before .before .before .before .before .before .load-index .last .1 .0) (c .before .before .before .before .before .before .before .before .before .before .before .before .before .before .before .load-index .last .1 .1 .0) (c .before .before .before .before .before .before .before .before .before .before .before .before .before .before .before .load-index .last .1 .1 .1 .0) (c .before .before .before .before .before .before .before .before .before .before .before .before .before .before .before .load-index .last .1 .1 .1 .1 .0) (c .before .before .before .before .before .before .before .before .before .before .before .before .before .before .before .load-index .last .1 .1 .1 .1 .1 .0) (c .before .before .before .before .before .before .before .before .before .before .before .before .before .before .before .load-index .ensures .1) (omega (arith, c .before .before .before .before .before .before .before .before .before .before .before .before .bindings2 .given)), omega (arith, n, h, c .before .before .before .before .before .before .before .before .before .before .before .before .before .before .before .before .before .before .before .before .before .before .before .before .pre .0), omega (arith, n, h, c .before .before .before .before .before .before .before .before .before .before .before .before .before .before .before .before .before .before .before .before .before .before .before .before .pre .1))
 
 enum-known-fault : tie.Need-enum-known-fault
 enum-known-fault c = search needs
@@ -56,7 +57,7 @@ same-length-2 : tie.Need-same-length-2
 same-length-2 c = search needs
 
 returns : tie.Need-returns
-returns c = let read = read-good _ _ _ (c .before .before .before .before .before .before .before .before .before .before .before .before .before .before .before .before .before .before .before .before .load-index .ensures .0) (c .before .before .before .before .before .before .before .before .before .before .before .before .before .sections .given .1) in let h = few-bindings _ (record { small = λ i. c .before .before .before .before .before .before .before .before .before .before .before .before .before .before .before .before .before .before .before .before .before .before .before .before .before .before .before .before .shared-slice-known .given i .fits }) _ read in sheet-filled _ _ read _ _ _ _ (omega (arith, h, c .before .before .before .sheet .given, c .before .before .before .before .before .before .before .before .before .before .before .before .before .before .before .before .before .before .before .before .before .before .before .before .before .before .before .before .before .pre .0)) (c .before .before .before .before .fill .ensures)
+returns c = let read = read-table _ _ _ (c .before .before .before .before .before .before .before .before .before .before .before .before .before .before .before .before .before .before .before .before .load-index .ensures .0) (c .before .before .before .before .before .before .before .before .before .before .before .before .before .sections .given .1) in let h = few-bindings-read _ (record { small = λ i. c .before .before .before .before .before .before .before .before .before .before .before .before .before .before .before .before .before .before .before .before .before .before .before .before .before .before .before .before .shared-slice-known .given i .fits }) _ read in sheet-filled _ _ read _ _ _ _ (omega (arith, h, c .before .before .before .sheet .given, c .before .before .before .before .before .before .before .before .before .before .before .before .before .before .before .before .before .before .before .before .before .before .before .before .before .before .before .before .before .pre .0)) (c .before .before .before .before .fill .ensures)
 
 returns-2 : tie.Need-returns-2
 returns-2 c = sheet-bad _ _ _ _ (c .before .before .before .before .before .before .before .before .load-index .ensures .0) (c .before .fault .given .1)
