@@ -25,10 +25,11 @@ use Rattle.records.specs.declared.requests.KeyRequestRead.the-variants as asKey
 use Rattle.records.proofs.DerivationForm.{derivation-form}
 use Rattle.table.specs.ReadKeyTable.{KeyLaid}
 use Rattle.table.specs.ReadTable as table
-use Rattle.table.specs.ReadTable.{loadedOf, sectionsOf}
+use Rattle.table.specs.ReadTable.{loadedOf}
 use Rattle.table.specs.declared.Sections.{Sections}
 use Rattle.table.specs.declared.Loaded.{Loaded}
 use Rattle.table.specs.declared.Loaded.the-variants as loaded
+use Rattle.matching.proofs.HeldLaws.{read-good, read-bad}
 use Rattle.keytable.specs.Loading.{keyLoadedOf, keySectionsOf}
 use Rattle.keytable.specs.declared.KeySections.{KeySections}
 use Rattle.keytable.specs.declared.KeyLoaded.{KeyLoaded}
@@ -44,13 +45,11 @@ countsLine s = Five done (s .spaces .count) (s .bindings .count) (s .accesses .c
 
 pub table-good : (p : Parsed table.Laid) (r : Loaded) (s : Sections) → r ≡ loadedOf p → r ≡ loaded.Good s → countsLine s ≡ tableLine p
 unfolding tableLine
-table-good (got l at) r s e h = let x : sectionsOf l ≡ s = cc in ap countsLine (sym x)
-table-good (bad g) r s e h = let z : _≡_ {A = ℕ} 0 1 = cc in absurd (omega arith)
+table-good p r s e h = let w = read-good p r s e h in ap countsLine (sym (w .3)) ∙ ap tableLine (sym (w .2))
 
 pub table-bad : (p : Parsed table.Laid) (r : Loaded) (f : Fault) (line : Line) → r ≡ loadedOf p → r ≡ loaded.Bad f → line ≡ faultLine f → line ≡ tableLine p
 unfolding tableLine
-table-bad (got l at) r f line e h q = let z : _≡_ {A = ℕ} 0 1 = cc in absurd (omega arith)
-table-bad (bad g) r f line e h q = let x : f ≡ g = cc in q ∙ ap faultLine x
+table-bad p r f line e h q = q ∙ ap tableLine (sym (read-bad p r f e h))
 
 -- ---- key tables
 abbrev pub keyCountsLine : KeySections → Line
@@ -69,13 +68,13 @@ key-table-bad (bad g) r f line e h q = let x : f ≡ g = cc in q ∙ ap faultLin
 -- ---- requests
 pub request-good : (p : Parsed table.Laid) (r : Loaded) (s : Sections) (b : List ℕ) → r ≡ loadedOf p → r ≡ loaded.Good s → wholeLine wrongRequest (readRequest (s .spaces .count) b) ≡ requestLine p b
 unfolding requestLine
-request-good (got l at) r s b e h = let x : sectionsOf l ≡ s = cc in ap (λ (s : Sections). wholeLine wrongRequest (readRequest (s .spaces .count) b)) (sym x)
-request-good (bad g) r s b e h = let z : _≡_ {A = ℕ} 0 1 = cc in absurd (omega arith)
+request-good p r s b e h =
+    let w = read-good p r s e h in
+    ap (λ (s : Sections). wholeLine wrongRequest (readRequest (s .spaces .count) b)) (sym (w .3)) ∙ ap (λ (p : Parsed table.Laid). requestLine p b) (sym (w .2))
 
 pub request-bad : (p : Parsed table.Laid) (r : Loaded) (f : Fault) (b : List ℕ) (line : Line) → r ≡ loadedOf p → r ≡ loaded.Bad f → line ≡ faultLine f → line ≡ requestLine p b
 unfolding requestLine
-request-bad (got l at) r f b line e h q = let z : _≡_ {A = ℕ} 0 1 = cc in absurd (omega arith)
-request-bad (bad g) r f b line e h q = let x : f ≡ g = cc in q ∙ ap faultLine x
+request-bad p r f b line e h q = q ∙ ap (λ (p : Parsed table.Laid). requestLine p b) (sym (read-bad p r f e h))
 
 pub request-some : (p : Option Request) (r : RequestRead) (v : RequestValue) → r ≡ requestRead p → r ≡ asRequest.Request v → One done ≡ wholeLine wrongRequest p
 unfolding wholeLine
