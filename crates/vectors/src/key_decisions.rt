@@ -1,19 +1,8 @@
 // Kind 13: decides a key request over a key table.
-use crate::input::Part;
-use crate::input::read_part;
 use crate::lines::write_answer_line;
 use kernel::rustamgheb_decide_by_keys;
 
-// Answers the case, and says whether to go on.
-pub fn answer() -> bool {
-    let mut first = io::large_buffer();
-    let Part::Whole(table) = read_part(&mut first) else {
-        return false;
-    };
-    let mut second = io::large_buffer();
-    let Part::Whole(request) = read_part(&mut second) else {
-        return false;
-    };
-    write_answer_line(rustamgheb_decide_by_keys(&first[..table], &second[..request]));
-    true
+// Answers the case.
+pub fn answer(table: &[u8], request: &[u8]) {
+    write_answer_line(rustamgheb_decide_by_keys(table, request));
 }

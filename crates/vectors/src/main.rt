@@ -1,5 +1,7 @@
 // vectors < CASES > LINES: the answer line of each case of a case file, in the file's order.
 use crate::input::stopped;
+use crate::parts::answer_one;
+use crate::parts::answer_two;
 use libc::STDIN_FILENO;
 
 mod checks;
@@ -11,6 +13,7 @@ mod key_decisions;
 mod key_requests;
 mod key_tables;
 mod lines;
+mod parts;
 mod requests;
 mod sheets;
 mod tables;
@@ -19,16 +22,16 @@ mod translations;
 // Answers a case of this kind, and says whether to go on.
 fn answer_case(kind: u8) -> bool {
     match kind {
-        1 => tables::answer(),
-        2 => requests::answer(),
-        3 => derivations::answer(),
-        4 => key_tables::answer(),
-        5 => key_requests::answer(),
-        6 => sheets::answer(),
+        1 => answer_one(kind),
+        2 => answer_two(kind),
+        3 => answer_one(kind),
+        4 => answer_one(kind),
+        5 => answer_one(kind),
+        6 => answer_one(kind),
         10 => decisions::answer(),
         11 => checks::answer(),
-        12 => translations::answer(),
-        13 => key_decisions::answer(),
+        12 => answer_two(kind),
+        13 => answer_two(kind),
         _ => stopped(b"no such kind"),
     }
 }

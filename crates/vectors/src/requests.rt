@@ -2,8 +2,6 @@
 ghost use mathlib.Core.Path.{_≡_};
 ghost use Rattle.table.specs.ReadTable.{readTable};
 ghost use Rattle.vectors.specs.Lines.{requestLine};
-use crate::input::Part;
-use crate::input::read_part;
 use crate::lines::Line;
 use crate::lines::fault_line;
 use crate::lines::write_line;
@@ -30,16 +28,7 @@ fn line_of(bytes: &[u8], request: &[u8]) -> Line
     }
 }
 
-// Answers the case, and says whether to go on.
-pub fn answer() -> bool {
-    let mut first = io::large_buffer();
-    let Part::Whole(table) = read_part(&mut first) else {
-        return false;
-    };
-    let mut second = io::large_buffer();
-    let Part::Whole(request) = read_part(&mut second) else {
-        return false;
-    };
-    write_line(line_of(&first[..table], &second[..request]));
-    true
+// Answers the case.
+pub fn answer(table: &[u8], request: &[u8]) {
+    write_line(line_of(table, request));
 }

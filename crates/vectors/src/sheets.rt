@@ -3,8 +3,6 @@ ghost use Prim.Native.Nat.{_≤_};
 ghost use lib.ListN.{length};
 ghost use Rattle.rules.specs.Ranges.{mostBindings};
 ghost use Rattle.vectors.specs.Sheets.{SheetOf};
-use crate::input::Part;
-use crate::input::read_part;
 use crate::lines::fault_line;
 use crate::lines::write_line;
 use crate::lines::write_row;
@@ -55,17 +53,12 @@ fn fill_sheet(table: &[u8], sheet: &mut [u32], order: &mut [u16]) -> SheetRead
     }
 }
 
-// Answers the case, and says whether to go on.
-pub fn answer() -> bool {
-    let mut buffer = io::large_buffer();
-    let Part::Whole(length) = read_part(&mut buffer) else {
-        return false;
-    };
+// Answers the case.
+pub fn answer(table: &[u8]) {
     let mut sheet = [7u32; 256];
     let mut order = [0u16; 256];
-    match fill_sheet(&buffer[..length], &mut sheet, &mut order) {
+    match fill_sheet(table, &mut sheet, &mut order) {
         SheetRead::Entries(count) => write_row(DONE, &sheet[..count]),
         SheetRead::Bad(fault) => write_line(fault_line(fault)),
     }
-    true
 }

@@ -2,8 +2,6 @@
 ghost use mathlib.Core.Path.{_≡_};
 ghost use Rattle.table.specs.ReadTable.{readTable};
 ghost use Rattle.vectors.specs.Lines.{tableLine};
-use crate::input::Part;
-use crate::input::read_part;
 use crate::lines::Line;
 use crate::lines::fault_line;
 use crate::lines::write_line;
@@ -33,12 +31,7 @@ fn line_of(bytes: &[u8]) -> Line
     }
 }
 
-// Answers the case, and says whether to go on.
-pub fn answer() -> bool {
-    let mut buffer = io::large_buffer();
-    let Part::Whole(length) = read_part(&mut buffer) else {
-        return false;
-    };
-    write_line(line_of(&buffer[..length]));
-    true
+// Answers the case.
+pub fn answer(bytes: &[u8]) {
+    write_line(line_of(bytes));
 }

@@ -4,8 +4,6 @@ ghost use Rattle.kernel.specs.Promises.{TellsTranslation};
 ghost use Rattle.vectors.specs.Hashes.{hashOf};
 use crate::hashes::hash_of;
 use crate::hashes::write_hash;
-use crate::input::Part;
-use crate::input::read_part;
 use crate::lines::end_line;
 use crate::lines::write_answer;
 use kernel::answers::Answer;
@@ -29,24 +27,11 @@ fn row_of(table: &[u8], buffer: &mut [u8]) -> Row
     }
 }
 
-// Writes the line.
-fn write_row(row: Row) {
+// Answers the case.
+pub fn answer(table: &[u8], buffer: &mut [u8]) {
+    let row = row_of(table, buffer);
     let answer = row.answer;
     write_answer(answer);
     write_hash(row.buffer);
     end_line();
-}
-
-// Answers the case, and says whether to go on.
-pub fn answer() -> bool {
-    let mut first = io::large_buffer();
-    let Part::Whole(table) = read_part(&mut first) else {
-        return false;
-    };
-    let mut second = io::large_buffer();
-    let Part::Whole(length) = read_part(&mut second) else {
-        return false;
-    };
-    write_row(row_of(&first[..table], &mut second[..length]));
-    true
 }

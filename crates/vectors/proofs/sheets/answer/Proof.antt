@@ -1,41 +1,16 @@
--- The part that is handed on stands within the buffer, and the entries that are written within the sheet.
+-- The entries that are written stand within the sheet.
 use mathlib.Core.Path.{sym}
 use lib.Seq.{length-take-le}
-use Rattle.vectors.proofs.PartsLaws.{whole-fits}
 use Rattle.vectors.proofs.SheetsLaws.{entries-within}
 use borrow.Author.Needs.{needs}
 use Rattle.vectors.proofs.sheets.answer.Statement.{statement}
 use Rattle.vectors.proofs.sheets.answer.Tie as tie
 
-large-buffer-requires : tie.Need-large-buffer-requires
-large-buffer-requires c κs = search needs
-
-slice-aggregate-read-part : tie.Need-slice-aggregate-read-part
-slice-aggregate-read-part c = search needs
-
-read-part-requires : tie.Need-read-part-requires
-read-part-requires c κs = search needs
-
-enum-known-length : tie.Need-enum-known-length
-enum-known-length c = search needs
-
-enum-told : tie.Need-enum-told
-enum-told c = search needs
-
-returns : tie.Need-returns
-returns c = search needs
-
-array-share-prefix-buffer : tie.Need-array-share-prefix-buffer
-array-share-prefix-buffer c = whole-fits _ _ _ (c .before .before .before .before .read-part .ensures) (c .before .length .given .1) .0
-
 slice-aggregate-fill-sheet : tie.Need-slice-aggregate-fill-sheet
-slice-aggregate-fill-sheet c = whole-fits _ _ _ (c .before .before .before .before .before .read-part .ensures) (c .before .before .length .given .1) .1
+slice-aggregate-fill-sheet c = search needs
 
 slice-aggregate-fill-sheet-2 : tie.Need-slice-aggregate-fill-sheet-2
 slice-aggregate-fill-sheet-2 c = search needs
-
-slice-aggregate-fill-sheet-3 : tie.Need-slice-aggregate-fill-sheet-3
-slice-aggregate-fill-sheet-3 c = search needs
 
 fill-sheet-requires : tie.Need-fill-sheet-requires
 fill-sheet-requires c κs = search needs
@@ -61,26 +36,18 @@ fault-line-requires c κs = search needs
 write-line-requires : tie.Need-write-line-requires
 write-line-requires c κs = search needs
 
+returns : tie.Need-returns
+returns c = search needs
+
 returns-2 : tie.Need-returns-2
 returns-2 c = search needs
-
-returns-3 : tie.Need-returns-3
-returns-3 c = search needs
 
 pub answer-spec : {M : Type 1} → statement M
 answer-spec =
     tie.close
     (tie.spec
-    large-buffer-requires
-    slice-aggregate-read-part
-    read-part-requires
-    enum-known-length
-    enum-told
-    returns
-    array-share-prefix-buffer
     slice-aggregate-fill-sheet
     slice-aggregate-fill-sheet-2
-    slice-aggregate-fill-sheet-3
     fill-sheet-requires
     enum-known-count
     array-share-prefix-sheet
@@ -89,5 +56,5 @@ answer-spec =
     enum-known-fault
     fault-line-requires
     write-line-requires
-    returns-2
-    returns-3)
+    returns
+    returns-2)

@@ -1,8 +1,8 @@
 -- The part that is handed on stands within the buffer.
 use Rattle.vectors.proofs.PartsLaws.{whole-fits}
 use borrow.Author.Needs.{needs}
-use Rattle.vectors.proofs.derivations.answer.Statement.{statement}
-use Rattle.vectors.proofs.derivations.answer.Tie as tie
+use Rattle.vectors.proofs.parts.answer_one.Statement.{statement}
+use Rattle.vectors.proofs.parts.answer_one.Tie as tie
 
 large-buffer-requires : tie.Need-large-buffer-requires
 large-buffer-requires c κs = search needs
@@ -25,20 +25,17 @@ returns c = search needs
 array-share-prefix-buffer : tie.Need-array-share-prefix-buffer
 array-share-prefix-buffer c = whole-fits _ _ _ (c .before .before .before .before .read-part .ensures) (c .before .length .given .1) .0
 
-slice-aggregate-line-of : tie.Need-slice-aggregate-line-of
-slice-aggregate-line-of c = whole-fits _ _ _ (c .before .before .before .before .before .read-part .ensures) (c .before .before .length .given .1) .1
+slice-aggregate-answer-part : tie.Need-slice-aggregate-answer-part
+slice-aggregate-answer-part c = whole-fits _ _ _ (c .before .before .before .before .before .read-part .ensures) (c .before .before .length .given .1) .1
 
-line-of-requires : tie.Need-line-of-requires
-line-of-requires c κs = search needs
-
-write-line-requires : tie.Need-write-line-requires
-write-line-requires c κs = search needs
+answer-part-requires : tie.Need-answer-part-requires
+answer-part-requires c κs = search needs
 
 returns-2 : tie.Need-returns-2
 returns-2 c = search needs
 
-pub answer-spec : {M : Type 1} → statement M
-answer-spec =
+pub answer-one-spec : {M : Type 1} → statement M
+answer-one-spec =
     tie.close
     (tie.spec
     large-buffer-requires
@@ -48,7 +45,6 @@ answer-spec =
     enum-told
     returns
     array-share-prefix-buffer
-    slice-aggregate-line-of
-    line-of-requires
-    write-line-requires
+    slice-aggregate-answer-part
+    answer-part-requires
     returns-2)

@@ -1,8 +1,8 @@
 -- The parts that are handed on stand within their buffers.
 use Rattle.vectors.proofs.PartsLaws.{whole-fits}
 use borrow.Author.Needs.{needs}
-use Rattle.vectors.proofs.key_decisions.answer.Statement.{statement}
-use Rattle.vectors.proofs.key_decisions.answer.Tie as tie
+use Rattle.vectors.proofs.parts.answer_two.Statement.{statement}
+use Rattle.vectors.proofs.parts.answer_two.Tie as tie
 
 large-buffer-requires : tie.Need-large-buffer-requires
 large-buffer-requires c κs = search needs
@@ -31,8 +31,8 @@ slice-aggregate-read-part-2 c = search needs
 read-part-requires-2 : tie.Need-read-part-requires-2
 read-part-requires-2 c κs = search needs
 
-enum-known-request : tie.Need-enum-known-request
-enum-known-request c = search needs
+enum-known-length : tie.Need-enum-known-length
+enum-known-length c = search needs
 
 enum-told-2 : tie.Need-enum-told-2
 enum-told-2 c = search needs
@@ -43,26 +43,23 @@ returns-2 c = search needs
 array-share-prefix-first : tie.Need-array-share-prefix-first
 array-share-prefix-first c = whole-fits _ _ _ (c .before .before .before .before .before .before .before .before .before .before .before .read-part .ensures) (c .before .before .before .before .before .before .before .before .table .given .1) .0
 
-slice-aggregate-rustamgheb-decide-by-keys : tie.Need-slice-aggregate-rustamgheb-decide-by-keys
-slice-aggregate-rustamgheb-decide-by-keys c = whole-fits _ _ _ (c .before .before .before .before .before .before .before .before .before .before .before .before .read-part .ensures) (c .before .before .before .before .before .before .before .before .before .table .given .1) .1
+slice-aggregate-answer-parts : tie.Need-slice-aggregate-answer-parts
+slice-aggregate-answer-parts c = whole-fits _ _ _ (c .before .before .before .before .before .before .before .before .before .before .before .before .read-part .ensures) (c .before .before .before .before .before .before .before .before .before .table .given .1) .1
 
-array-share-prefix-second : tie.Need-array-share-prefix-second
-array-share-prefix-second c = whole-fits _ _ _ (c .before .before .before .before .before .read-part2 .ensures) (c .before .before .request .given .1) .0
+array-borrow-prefix-second : tie.Need-array-borrow-prefix-second
+array-borrow-prefix-second c = whole-fits _ _ _ (c .before .before .before .before .before .read-part2 .ensures) (c .before .before .length .given .1) .0
 
-slice-aggregate-rustamgheb-decide-by-keys-2 : tie.Need-slice-aggregate-rustamgheb-decide-by-keys-2
-slice-aggregate-rustamgheb-decide-by-keys-2 c = whole-fits _ _ _ (c .before .before .before .before .before .before .read-part2 .ensures) (c .before .before .before .request .given .1) .1
+slice-aggregate-answer-parts-2 : tie.Need-slice-aggregate-answer-parts-2
+slice-aggregate-answer-parts-2 c = whole-fits _ _ _ (c .before .before .before .before .before .before .read-part2 .ensures) (c .before .before .before .length .given .1) .1
 
-rustamgheb-decide-by-keys-requires : tie.Need-rustamgheb-decide-by-keys-requires
-rustamgheb-decide-by-keys-requires c κs = search needs
-
-write-answer-line-requires : tie.Need-write-answer-line-requires
-write-answer-line-requires c κs = search needs
+answer-parts-requires : tie.Need-answer-parts-requires
+answer-parts-requires c κs = search needs
 
 returns-3 : tie.Need-returns-3
 returns-3 c = search needs
 
-pub answer-spec : {M : Type 1} → statement M
-answer-spec =
+pub answer-two-spec : {M : Type 1} → statement M
+answer-two-spec =
     tie.close
     (tie.spec
     large-buffer-requires
@@ -74,13 +71,12 @@ answer-spec =
     large-buffer-requires-2
     slice-aggregate-read-part-2
     read-part-requires-2
-    enum-known-request
+    enum-known-length
     enum-told-2
     returns-2
     array-share-prefix-first
-    slice-aggregate-rustamgheb-decide-by-keys
-    array-share-prefix-second
-    slice-aggregate-rustamgheb-decide-by-keys-2
-    rustamgheb-decide-by-keys-requires
-    write-answer-line-requires
+    slice-aggregate-answer-parts
+    array-borrow-prefix-second
+    slice-aggregate-answer-parts-2
+    answer-parts-requires
     returns-3)
