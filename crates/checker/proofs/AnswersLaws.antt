@@ -32,7 +32,7 @@ use Rattle.matching.specs.declared.Given.the-variants as asGiven
 use Rattle.matching.proofs.HeldLaws.{Read, read-bad}
 use Rattle.matching.proofs.AskedLaws.{Asks, asks, asks-nothing}
 use Rattle.checker.specs.Walks.{Blank}
-use Rattle.checker.specs.Promise.{ChecksGood, badRequest, notDerivation, accepted, Checks, badTable, goodTable, HoldsAs, loadedFault}
+use Rattle.checker.specs.Promise.{ChecksGood, badRequest, notDerivation, accepted, Checks, badTable, goodTable, HoldsAs}
 use Rattle.checker.specs.declared.Checked.{Checked}
 use Rattle.checker.specs.declared.Checked.the-variants as checked
 use Rattle.matching.proofs.MatchingLaws.{gives-to, gives-none}
@@ -91,11 +91,8 @@ module _ (s keys names accesses delegations : List ℕ) (held : Held s keys name
         does-hold k d y = accepted (is .read) (this .1) (gives-to held-as y)
 
 -- ---- over any bytes
-module _ (s request derivation : List ℕ) (r : Loaded) (read : r ≡ loadedOf (readTable s)) where
-  pub table-bad : (g f : Fault) → r ≡ loaded.Bad g → f ≡ loadedFault r → Checks s request derivation (checked.BadTable f)
-  table-bad g f e h =
-      let q : f ≡ g = h ∙ ap loadedFault e in
-      badTable (read-bad (readTable s) r f read (e ∙ ap loaded.Bad (sym q)))
+pub table-bad : (s request derivation : List ℕ) (r : Loaded) → r ≡ loadedOf (readTable s) → (f : Fault) → r ≡ loaded.Bad f → Checks s request derivation (checked.BadTable f)
+table-bad s request derivation r read f e = badTable (read-bad (readTable s) r f read e)
 
 pub table-good : (s request derivation : List ℕ) (v : Sections) → Read s v → (a : Checked) → ChecksGood (tableAt s) request derivation a → Checks s request derivation a
 table-good s request derivation v w a h = goodTable (w .table) (subst (λ (t : Table). ChecksGood t request derivation a) (table-at s (w .laid) (w .end) (w .table)) h)

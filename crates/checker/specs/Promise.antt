@@ -9,15 +9,12 @@ use Rattle.rules.specs.Derivations.{Holds}
 use Rattle.rules.specs.declared.Key.{Key}
 use Rattle.rules.specs.declared.Space.{Space}
 use Rattle.rules.specs.declared.Depth.{Depth}
-use Rattle.records.specs.Parsed.{got, bad, faultAt}
+use Rattle.records.specs.Parsed.{got, bad}
 use Rattle.records.specs.Requests.{readRequest}
 use Rattle.records.specs.DerivationBytes.{Laid, readDerivation, partsOf}
 use Rattle.records.specs.declared.derivations.Parts.{Parts}
-use Rattle.records.specs.declared.faults.Kind.the-variants as kind
 use Rattle.records.specs.declared.faults.Fault.{Fault}
 use Rattle.table.specs.ReadTable.{Laid as LaidTable, tableOf, readTable}
-use Rattle.table.specs.declared.Loaded.{Loaded}
-use Rattle.table.specs.declared.Loaded.the-variants as loaded
 use Rattle.matching.specs.Matching.{Gives}
 use Rattle.matching.specs.declared.Given.{Given}
 use Rattle.checker.specs.declared.Checked.{Checked}
@@ -41,7 +38,3 @@ pub data Checks (table request derivation : List ℕ) : Checked → Type 0 where
 abbrev pub HoldsAs : Table → Target → Asked Space → List ℕ → Parts → Given → Type 0
 HoldsAs t subject q s parts r =
     (v : Laid) → readDerivation s ≡ some v → partsOf v ≡ parts → Gives (λ (k : Key) (d : ℕ). Holds t (record { subject = subject; asked = q }) (v .derivation) d) r
-
-abbrev pub loadedFault : Loaded → Fault
-loadedFault (loaded.Good x) = faultAt kind.Range 0
-loadedFault (loaded.Bad e) = e

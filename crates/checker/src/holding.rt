@@ -8,7 +8,7 @@ ghost use Rattle.sheet.specs.Finds.{FittingTarget};
 ghost use Rattle.sheet.specs.Listings.{Known};
 ghost use Rattle.matching.specs.Matching.{Held, askedOf};
 ghost use Rattle.checker.specs.Walks.{Blank};
-ghost use Rattle.checker.specs.Promise.{HoldsAs, ChecksGood, loadedFault};
+ghost use Rattle.checker.specs.Promise.{HoldsAs, ChecksGood};
 use crate::Checked;
 use crate::listing::enter_listed;
 use crate::walking::walk;
@@ -16,9 +16,6 @@ use matching::Given;
 use records::derivations::DerivationRead;
 use records::derivations::Parts;
 use records::derivations::read_derivation;
-use records::faults::Fault;
-use records::faults::Kind;
-use records::faults::fault_at;
 use records::fields::Use;
 use records::requests::RequestRead;
 use records::requests::read_request;
@@ -26,7 +23,6 @@ use records::targets::Target;
 use rules::Space;
 use sheet::following::Followed;
 use sheet::following::follow_target;
-use table::Loaded;
 
 // The depth at which the derivation with these parts holds: the listed bindings are entered, and by them the chain leads to the subject's key.
 pub fn hold(
@@ -129,14 +125,4 @@ pub fn check_good(
         return Checked::NotDerivation;
     };
     Checked::Accepted(depth)
-}
-
-// The fault of a table that was not found good.
-pub fn load_fault(loaded: Loaded) -> Fault
-    ensures { λ r. ⌜ r ≡ loadedFault loaded ⌝ }
-{
-    match loaded {
-        Loaded::Good(_) => fault_at(Kind::Range, 0),
-        Loaded::Bad(fault) => fault,
-    }
 }

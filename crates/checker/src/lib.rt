@@ -1,7 +1,6 @@
 // The checker: whether a derivation holds in the table that is shown, and at which depth. It writes nothing.
 ghost use Rattle.checker.specs.Promise.{Checks};
 use crate::holding::check_good;
-use crate::holding::load_fault;
 use records::faults::Fault;
 use rules::Depth;
 use table::Loaded;
@@ -27,33 +26,34 @@ pub fn check(table: &[u8], request: &[u8], derivation: &[u8]) -> Checked
     let mut bindings = [0; 256];
     let mut accesses = [0; 256];
     let mut delegations = [0; 512];
-    let loaded = load_index(
+    match load_index(
         table,
         &mut keys,
         &mut names,
         &mut bindings,
         &mut accesses,
         &mut delegations,
-    );
-    let Loaded::Good(sections) = loaded else {
-        return Checked::BadTable(load_fault(loaded));
-    };
-    let spaces = sections.spaces;
-    let bound = sections.bindings;
-    let listed = sections.accesses;
-    let written = sections.delegations;
-    let a = spaces.count;
-    let b = bound.count;
-    let c = listed.count;
-    let d = written.count;
-    check_good(
-        table,
-        &keys[..a],
-        &names[..b],
-        &bindings,
-        &accesses[..c],
-        &delegations[..d],
-        request,
-        derivation,
-    )
+    ) {
+        Loaded::Good(sections) => {
+            let spaces = sections.spaces;
+            let bound = sections.bindings;
+            let listed = sections.accesses;
+            let written = sections.delegations;
+            let a = spaces.count;
+            let b = bound.count;
+            let c = listed.count;
+            let d = written.count;
+            check_good(
+                table,
+                &keys[..a],
+                &names[..b],
+                &bindings,
+                &accesses[..c],
+                &delegations[..d],
+                request,
+                derivation,
+            )
+        }
+        Loaded::Bad(fault) => Checked::BadTable(fault),
+    }
 }
