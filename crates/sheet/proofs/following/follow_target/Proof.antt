@@ -1,25 +1,17 @@
--- `follow_target`: a key leads to itself, a name where `follow_name` says.
-use Rattle.sheet.proofs.FindsLaws.{name-requires, target-key, target-name}
+-- `follow_target` tells where the target leads for now.
+use Rattle.sheet.proofs.WalksLaws.{found-now}
 use borrow.Author.Needs.{needs}
 use Rattle.sheet.proofs.following.follow_target.Statement.{statement}
 use Rattle.sheet.proofs.following.follow_target.Tie as tie
 
-enum-known-target : tie.Need-enum-known-target
-enum-known-target c = search needs
+walk-target-requires : tie.Need-walk-target-requires
+walk-target-requires c κs = search needs
 
-enum-known-target-2 : tie.Need-enum-known-target-2
-enum-known-target-2 c = search needs
-
-follow-name-requires : tie.Need-follow-name-requires
-follow-name-requires c κs = let w = name-requires _ _ _ _ (c .before .target2 .given .1) (c .before .before .before .before .before .before .pre .2) in (c .before .before .before .before .before .before .pre .0, c .before .before .before .before .before .before .pre .1, w .0, w .1)
+for-now-requires : tie.Need-for-now-requires
+for-now-requires c κs = search needs
 
 returns : tie.Need-returns
-returns c = λ t index. target-key _ _ _ _ (c .before .target .given .1)
-
-returns-2 : tie.Need-returns-2
-returns-2 c = λ t index. target-name _ _ _ _ _ (c .before .before .target2 .given .1) _ (c .follow-name .ensures t index)
+returns c = λ t index. found-now _ _ _ _ _ (c .for-now .ensures) (c .before .walk-target .ensures t index)
 
 pub follow-target-spec : {M : Type 1} → statement M
-follow-target-spec =
-    tie.close
-    (tie.spec enum-known-target enum-known-target-2 follow-name-requires returns returns-2)
+follow-target-spec = tie.close (tie.spec walk-target-requires for-now-requires returns)
