@@ -110,7 +110,8 @@ fn decide_roomy(
     ensures { λ r. ⌜ DecidesAs (tableAt (now (table .entry))) (targetOf subject) (askedOf owner wanted) (now (sheet .entry)) (now (derivation .entry)) r (now (sheet .exit)) (now (derivation .exit)) ⌝ }
 {
     let mut order = [0; 256];
-    let listed = fill(table, keys, names, bindings, sheet, &mut order);
+    let mut edges = [0; 512];
+    let listed = fill(table, keys, names, bindings, sheet, &mut order, &mut edges);
     let meant = follow_target(keys, names, sheet, subject);
     let Followed::Key(key) = meant else {
         return Decided::Unnamed;
@@ -126,6 +127,7 @@ fn decide_roomy(
         owner,
         wanted,
         key,
+        &mut edges,
         &mut chain,
     );
     let code = settled.code;

@@ -14,7 +14,7 @@ use records::fields::Use;
 use rules::Key;
 use rules::Space;
 
-// Settles what the key has; the chain's delegations stand at the end of `chain`.
+// Settles what the key has, with room for the edges lent; the chain's delegations stand at the end of `chain`.
 pub fn find_chain(
     table: &[u8],
     keys: &[u32],
@@ -25,13 +25,13 @@ pub fn find_chain(
     owner: Space,
     wanted: Use,
     subject: Key,
+    edges: &mut [u32],
     chain: &mut [u16],
 ) -> Settled
     requires { ⌜ Held (now table) (now keys) (now names) (now accesses) (now delegations) × (length (now names) ≤ length (now sheet)) × (owner .0 < length (now keys))
-        × (length (now accesses) ≤ mostAccesses) × (length (now delegations) ≤ mostDelegations) × (length (now chain) ≡ top) ⌝ }
+        × (length (now accesses) ≤ mostAccesses) × (length (now delegations) ≤ mostDelegations) × (mostDelegations ≤ length (now edges)) × (length (now chain) ≡ top) ⌝ }
     ensures { λ r. ⌜ Settles (tableAt (now (table .entry))) (now (sheet .entry)) (askedOf owner wanted) subject (now (chain .exit)) r ⌝ }
 {
-    let mut edges = [0; 512];
     let m = draw_all(
         table,
         keys,
@@ -42,7 +42,7 @@ pub fn find_chain(
         owner,
         wanted,
         subject,
-        &mut edges,
+        edges,
     );
     let nodes = keys.len() + 1;
     let mut begun = [0; 65];

@@ -32,7 +32,16 @@ fn open_good(
 {
     let mut sheet = [0; 256];
     let mut order = [0; 256];
-    fill(table, keys, names, bindings, &mut sheet, &mut order);
+    let mut waits = [0; 256];
+    fill(
+        table,
+        keys,
+        names,
+        bindings,
+        &mut sheet,
+        &mut order,
+        &mut waits,
+    );
     match task {
         Task::Explain => explain(
             table,

@@ -21,25 +21,19 @@ use Rattle.rules.proofs.FollowingLaws.{target-more}
 use Rattle.rules.proofs.SheetsLaws.{filling-start, filling-step, rest-exact}
 use Rattle.rules.proofs.RoundsLaws.{empty-set, none-empty}
 use Rattle.table.proofs.FindingLaws.{at-below}
-use Rattle.sheet.specs.Listings.{Known, Leading, Listing, Quiet, Turn, more, same, Round, Filled}
-use Rattle.sheet.specs.declared.following.Followed.{Followed}
-use Rattle.sheet.specs.declared.following.Followed.the-variants as followed
-use Rattle.sheet.proofs.FindsLaws.{finds-key, finds-none}
+use Rattle.sheet.specs.Listings.{Known, Opening, Listing, Quiet, Turn, more, same, Round, Filled}
+use Rattle.sheet.specs.declared.following.Walked.{Walked}
+use Rattle.sheet.specs.declared.following.Walked.the-variants as walked
+use Rattle.sheet.proofs.WalksLaws.{walks-key}
 use Rattle.sheet.proofs.MeaningLaws.{index-bindings}
 
 module _ (t : NameTable) (sheet order : List ℕ) (listed : ℕ) (now : Listing t sheet order listed) where
   -- ---- one entry
   module _ (i : ℕ) (h : i < length (t .bindings)) where
-    pub filled-already : (entry sheet i ≡ 0 → ⊥) → Turn t i sheet sheet listed listed
-    filled-already n = same refl (record { quiet = λ x k a z w. n z })
-
-    module _ (r : Followed) (found : Leading t sheet i r) where
-      pub leads-nowhere : r ≡ followed.Nothing → Turn t i sheet sheet listed listed
-      leads-nowhere e = same refl (record { quiet = λ x k a z w. finds-none (found .finds x a) e k w })
-
-      module _ (good : GoodNames t) (k : Key) (e : r ≡ followed.Key k) (z : entry sheet i ≡ 0) where
+    module _ (r : Walked) (found : Opening t sheet i r) where
+      module _ (good : GoodNames t) (k : Key) (e : r ≡ walked.Key k) (z : entry sheet i ≡ 0) where
         leads : (x : Binding) → At (t .bindings) i x → TargetLeads t (InSheet t sheet) (x .target) k
-        leads x a = finds-key (found .finds x a) e
+        leads x a = walks-key t sheet (x .target) r k (found .walks x a) e
 
         next : Filling t (set sheet i (k .0)) (take listed order ▷ i)
         next =

@@ -4,4 +4,5 @@ pub mod WalksLaws
 pub mod ClearedLaws
 pub mod MeaningLaws
 pub mod FillingLaws
+pub mod WaitingLaws
 pub mod KnownLaws

@@ -7,7 +7,6 @@ use lib.ListN.{length, take, getD, length-map}
 use Rattle.rules.specs.Lists.{At}
 use Rattle.rules.specs.Tables.{Path, Target, toKey, toName, Binding, NameTable}
 use Rattle.rules.specs.Ranges.{GoodPath, GoodTarget}
-use Rattle.rules.specs.Following.{InSheet, TargetLeads}
 use Rattle.rules.specs.declared.Key.{Key}
 use Rattle.rules.proofs.ListsLaws.{at-head, at-tail}
 use Rattle.records.specs.Paths.{pathOf, pathValue}
@@ -23,9 +22,12 @@ use Rattle.records.proofs.RecordsForm.{binding-walks}
 use Rattle.table.specs.Kept.{unbound}
 use Rattle.table.proofs.LoadingLaws.{rest, there-back}
 use Rattle.table.proofs.FindingLaws.{at-below}
-use Rattle.sheet.specs.Finds.{Finds, Index, Fitting, FittingTarget}
-use Rattle.sheet.specs.Listings.{Known, Leading}
+use Rattle.sheet.specs.Finds.{Index, Fitting, FittingTarget}
+use Rattle.sheet.specs.Walks.{Walks, forNow}
+use Rattle.sheet.specs.Listings.{Known, Opening, Leading}
 use Rattle.sheet.specs.declared.following.Followed.{Followed}
+use Rattle.sheet.specs.declared.following.Walked.{Walked}
+use Rattle.sheet.proofs.WalksLaws.{found-now}
 
 -- ---- paths and targets as code holds them
 -- A name of the path, or 0 where there is none, is below 65,536.
@@ -102,5 +104,8 @@ module _ (t : NameTable) (s keys names places : List ℕ) (known : Known t s key
       pub target-read : (x : Binding) → At (t .bindings) i x → targetOf (v .target) ≡ x .target
       target-read x a = ap targetOf (is-value x a) ∙ target-back (length (t .spaces)) (x .target) (known .index .good .bindings i x a .target)
 
-      pub leads-so : (sheet : List ℕ) (a : Followed) → Finds (TargetLeads t (InSheet t sheet) (targetOf (v .target))) a → Leading t sheet i a
-      leads-so sheet a w = record { finds = λ x b. subst (λ (g : Target). Finds (TargetLeads t (InSheet t sheet) g) a) (target-read x b) w }
+      pub leads-so : (sheet : List ℕ) (a : Walked) → Walks t sheet (targetOf (v .target)) a → Opening t sheet i a
+      leads-so sheet a w = record { walks = λ x b. subst (λ (g : Target). Walks t sheet g a) (target-read x b) w }
+
+pub leads-now : (t : NameTable) (sheet : List ℕ) (i : ℕ) (w : Walked) (r : Followed) → r ≡ forNow w → Opening t sheet i w → Leading t sheet i r
+leads-now t sheet i w r e o = record { finds = λ x a. found-now t sheet (x .target) w r e (o .walks x a) }

@@ -3,7 +3,9 @@ use mathlib.Core.Path.{_≡_, refl, sym, _∙_, ap, subst}
 use mathlib.Core.List.{List, _∷_}
 use Prim.Native.Nat.{ℕ, _-_, _<_}
 use native.Mathlib.Omega.{arith}
-use lib.ListN.{length, getD}
+use native.Mathlib.Decide.{ℕ-discrete}
+use lib.ListN.{length, set, getD}
+use lib.Seq.{getD-set-other}
 use Rattle.rules.specs.Tables.{Target, toName, NameTable}
 use Rattle.rules.specs.Names.{IsSelf, Opens}
 use Rattle.rules.specs.Sheets.{entry}
@@ -23,7 +25,7 @@ use Rattle.table.specs.declared.finding.BindingFound.{BindingFound}
 use Rattle.table.specs.declared.finding.BindingFound.the-variants as binding
 use Rattle.sheet.specs.Finds.{Finds, Index, Fitting, restOf}
 use Rattle.sheet.specs.Finds.{key as findsKey, nothing as findsNothing}
-use Rattle.sheet.specs.Walks.{Grown, Walks, key, waits, nothing, forNow}
+use Rattle.sheet.specs.Walks.{Grown, Stopped, Nowhere, Walks, key, waits, nothing, forNow}
 use Rattle.sheet.specs.declared.following.Followed.{Followed}
 use Rattle.sheet.specs.declared.following.Walked.{Walked}
 use Rattle.sheet.specs.declared.following.Walked.the-variants as walked
@@ -32,6 +34,16 @@ use Rattle.sheet.proofs.FindsLaws.{path-none, path-first, rest-fits, sp
 -- ---- a sheet that grows
 pub grown-none : (sheet : List ℕ) → Grown sheet sheet
 grown-none sheet = record { stays = λ i h. refl }
+
+pub grown-set : (sheet : List ℕ) (i v : ℕ) → entry sheet i ≡ 0 → Grown sheet (set sheet i v)
+grown-set sheet i v z = record { stays = λ j h. go j h (ℕ-discrete j i) }
+  where
+    go : (j : ℕ) → 0 < entry sheet j → Dec (j ≡ i) → entry (set sheet i v) j ≡ entry sheet j
+    go j h (yes e) = let q : entry sheet j ≡ 0 = ap (entry sheet) e ∙ z in absurd (omega arith)
+    go j h (no d) = getD-set-other sheet i j v 0 d
+
+pub stopped-on : (t : NameTable) (sheet next : List ℕ) (g : Target) (j : ℕ) → Grown sheet next → Stopped t sheet g j → Stopped t next g j
+stopped-on t sheet next g j grown s = record { stopped = λ later more. s .stopped later (record { stays = λ i h. more .stays i (rw (grown .stays i h) h) ∙ grown .stays i h }) }
 
 -- ---- a name, by the binding that its space opens for its first part
 module _ (t : NameTable) (keys names sheet : List ℕ) (index : Index t keys names) (S : Space) (p : Path) (fits : Fitting p) where
@@ -134,6 +146,23 @@ module _ (t : NameTable) (sheet : List ℕ) (g : TargetValue) where
 
   pub target-name : (S : Space) (p : Path) → g ≡ asTarget.Name S p → (r : Walked) → Walks t sheet (toName S (pathOf p)) r → Walks t sheet (targetOf g) r
   target-name S p e r w = subst (λ (h : TargetValue). Walks t sheet (targetOf h) r) (sym e) w
+
+-- ---- what was found
+module _ (t : NameTable) (sheet : List ℕ) (g : Target) where
+  pub walks-key : (r : Walked) (k : Key) → Walks t sheet g r → r ≡ walked.Key k → TargetLeads t (InSheet t sheet) g k
+  walks-key _ k (key m l) e = let q : m ≡ k = cc in subst (TargetLeads t (InSheet t sheet) g) q l
+  walks-key _ k (waits j h z s) e = let z : _≡_ {A = ℕ} 0 1 = cc in absurd (omega arith)
+  walks-key _ k (nothing s) e = let z : _≡_ {A = ℕ} 0 1 = cc in absurd (omega arith)
+
+  pub walks-waits : (r : Walked) (j : ℕ) → Walks t sheet g r → r ≡ walked.Waits j → (j < length (t .bindings)) × (entry sheet j ≡ 0) × Stopped t sheet g j
+  walks-waits _ j (key m l) e = let z : _≡_ {A = ℕ} 0 1 = cc in absurd (omega arith)
+  walks-waits _ j (waits i h z s) e = let q : i ≡ j = cc in subst (λ (n : ℕ). (n < length (t .bindings)) × (entry sheet n ≡ 0) × Stopped t sheet g n) q (h, z, s)
+  walks-waits _ j (nothing s) e = let z : _≡_ {A = ℕ} 0 1 = cc in absurd (omega arith)
+
+  pub walks-nothing : (r : Walked) → Walks t sheet g r → r ≡ walked.Nothing → Nowhere t sheet g
+  walks-nothing _ (key m l) e = let z : _≡_ {A = ℕ} 0 1 = cc in absurd (omega arith)
+  walks-nothing _ (waits i h z s) e = let z : _≡_ {A = ℕ} 0 1 = cc in absurd (omega arith)
+  walks-nothing _ (nothing s) e = s
 
 -- ---- for now
 pub found-now : (t : NameTable) (sheet : List ℕ) (g : Target) (w : Walked) (r : Followed) → r ≡ forNow w → Walks t sheet g w → Finds (TargetLeads t (InSheet t sheet) g) r

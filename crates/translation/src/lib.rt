@@ -62,7 +62,16 @@ fn translate_good(
 {
     let mut sheet = [0; 256];
     let mut order = [0; 256];
-    fill(table, keys, names, bindings, &mut sheet, &mut order);
+    let mut waits = [0; 256];
+    fill(
+        table,
+        keys,
+        names,
+        bindings,
+        &mut sheet,
+        &mut order,
+        &mut waits,
+    );
     write_key_table(table, keys, names, accesses, delegations, &sheet, out)
 }
 

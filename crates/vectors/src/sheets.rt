@@ -28,6 +28,7 @@ fn fill_sheet(table: &[u8], sheet: &mut [u32], order: &mut [u16]) -> SheetRead
     let mut bindings = [0u16; 256];
     let mut accesses = [0u16; 256];
     let mut delegations = [0u16; 512];
+    let mut waits = [0u32; 256];
     match load_index(
         table,
         &mut keys,
@@ -46,6 +47,7 @@ fn fill_sheet(table: &[u8], sheet: &mut [u32], order: &mut [u16]) -> SheetRead
                 &bindings,
                 sheet,
                 order,
+                &mut waits,
             );
             SheetRead::Entries(bound.count)
         }

@@ -11,6 +11,9 @@ slice-aggregate-fill c = search needs
 slice-aggregate-fill-2 : tie.Need-slice-aggregate-fill-2
 slice-aggregate-fill-2 c = search needs
 
+slice-aggregate-fill-3 : tie.Need-slice-aggregate-fill-3
+slice-aggregate-fill-3 c = search needs
+
 fill-requires : tie.Need-fill-requires
 fill-requires c κs = search needs
 
@@ -18,7 +21,7 @@ slice-aggregate-write-key-table : tie.Need-slice-aggregate-write-key-table
 slice-aggregate-write-key-table c = search needs
 
 write-key-table-requires : tie.Need-write-key-table-requires
-write-key-table-requires c κs = (record { held = c .before .before .before .before .before .before .before .before .before .before .before .before .before .before .pre .1; room = omega (arith, c .before .before .before .before .before .before .before .before .before .before .before .before .before .before .pre .0 .fewBindings, c .before .before .before .sheet2 .given); exact = c .before .before .before .before .fill .ensures .exact }, key-table-fits _ (c .before .before .before .before .before .before .before .before .before .before .before .before .before .before .pre .1 .good) _ (c .before .before .before .before .before .before .before .before .before .before .before .before .before .before .pre .2))
+write-key-table-requires c κs = (record { held = c .before .before .before .before .before .before .before .before .before .before .before .before .before .before .before .before .pre .1; room = omega (arith, c .before .before .before .before .before .before .before .before .before .before .before .before .before .before .before .before .pre .0 .fewBindings, c .before .before .before .before .sheet2 .given); exact = c .before .before .before .before .before .fill .ensures .exact }, key-table-fits _ (c .before .before .before .before .before .before .before .before .before .before .before .before .before .before .before .before .pre .1 .good) _ (c .before .before .before .before .before .before .before .before .before .before .before .before .before .before .before .before .pre .2))
 
 same-length : tie.Need-same-length
 same-length c = search needs
@@ -32,6 +35,7 @@ translate-good-spec =
     (tie.spec
     slice-aggregate-fill
     slice-aggregate-fill-2
+    slice-aggregate-fill-3
     fill-requires
     slice-aggregate-write-key-table
     write-key-table-requires

@@ -7,19 +7,19 @@ use Rattle.sheet.proofs.filling.clear.Statement.{statement}
 use Rattle.sheet.proofs.filling.clear.Tie as tie
 
 abbrev Inv-loop : tie.InvT-loop
-Inv-loop sheet₀ i₀ sheet i = Cleared sheet₀ sheet i
+Inv-loop row₀ i₀ row i = Cleared row₀ row i
 
 abbrev μ-loop : tie.MeasureT-loop
-μ-loop sheet₀ i₀ sheet i = length sheet₀ - i
+μ-loop row₀ i₀ row i = length row₀ - i
 
 loop-holds : tie.Need-loop-holds Inv-loop μ-loop
 loop-holds c = cleared-start _
 
-mul-sheet : tie.Need-mul-sheet Inv-loop μ-loop
-mul-sheet c = search needs
+mul-row : tie.Need-mul-row Inv-loop μ-loop
+mul-row c = search needs
 
-slice-write-sheet : tie.Need-slice-write-sheet Inv-loop μ-loop
-slice-write-sheet c = search needs
+slice-write-row : tie.Need-slice-write-row Inv-loop μ-loop
+slice-write-row c = search needs
 
 add-i : tie.Need-add-i Inv-loop μ-loop
 add-i c = search needs
@@ -43,8 +43,8 @@ clear-spec =
     Inv-loop
     μ-loop
     loop-holds
-    mul-sheet
-    slice-write-sheet
+    mul-row
+    slice-write-row
     add-i
     loop-less
     loop-again

@@ -1,63 +1,17 @@
--- `meaning` reads the binding where it stands and follows its target.
-use native.Mathlib.Omega.{arith}
-use Rattle.sheet.proofs.MeaningLaws.{place-within, no-fault, target-fitting, leads-so}
+-- `meaning` tells where the binding leads for now.
+use Rattle.sheet.proofs.MeaningLaws.{leads-now}
 use borrow.Author.Needs.{needs}
 use Rattle.sheet.proofs.filling.meaning.Statement.{statement}
 use Rattle.sheet.proofs.filling.meaning.Tie as tie
 
-mul-place : tie.Need-mul-place
-mul-place c = search needs
+open-binding-requires : tie.Need-open-binding-requires
+open-binding-requires c κs = search needs
 
-shared-slice-read-place : tie.Need-shared-slice-read-place
-shared-slice-read-place c = search needs
-
-cast-place : tie.Need-cast-place
-cast-place c = omega (arith, place-within _ _ _ _ _ (c .before .before .before .before .before .before .pre .0) _ (c .before .before .before .before .before .before .pre .2), c .before .before .before .before .before .shared-slice-known .given 0)
-
-sub-read-binding : tie.Need-sub-read-binding
-sub-read-binding c = place-within _ _ _ _ _ (c .before .before .before .before .before .before .pre .0) _ (c .before .before .before .before .before .before .pre .2)
-
-part-read-binding-start : tie.Need-part-read-binding-start
-part-read-binding-start c = place-within _ _ _ _ _ (c .before .before .before .before .before .before .pre .0) _ (c .before .before .before .before .before .before .pre .2)
-
-part-read-binding-end : tie.Need-part-read-binding-end
-part-read-binding-end c = search needs
-
-slice-aggregate-read-binding : tie.Need-slice-aggregate-read-binding
-slice-aggregate-read-binding c = search needs
-
-read-binding-requires : tie.Need-read-binding-requires
-read-binding-requires c κs = search needs
-
-enum-known-binding : tie.Need-enum-known-binding
-enum-known-binding c = search needs
-
-follow-target-requires : tie.Need-follow-target-requires
-follow-target-requires c κs = (c .before .before .before .before .before .before .before .before .before .before .before .before .pre .0 .fewSpaces, c .before .before .before .before .before .before .before .before .before .before .before .before .pre .1, target-fitting _ _ _ _ _ (c .before .before .before .before .before .before .before .before .before .before .before .before .pre .0) _ (c .before .before .before .before .before .before .before .before .before .before .before .before .pre .2) _ (c .before .before .before .read-binding .ensures) _ _ (c .before .binding .given .1))
-
-enum-told : tie.Need-enum-told
-enum-told c = search needs
+for-now-requires : tie.Need-for-now-requires
+for-now-requires c κs = search needs
 
 returns : tie.Need-returns
-returns c = leads-so _ _ _ _ _ (c .before .before .before .before .before .before .before .before .before .before .before .before .before .pre .0) _ (c .before .before .before .before .before .before .before .before .before .before .before .before .before .pre .2) _ (c .before .before .before .before .read-binding .ensures) _ _ (c .before .before .binding .given .1) _ _ (c .follow-target .ensures _ (c .before .before .before .before .before .before .before .before .before .before .before .before .before .pre .0 .index))
-
-returns-2 : tie.Need-returns-2
-returns-2 c = absurd (no-fault _ _ _ _ _ (c .before .before .before .before .before .before .before .before .before .before .before .pre .0) _ (c .before .before .before .before .before .before .before .before .before .before .before .pre .2) _ (c .before .before .read-binding .ensures) _ (c .enum-told .given .1))
+returns c = leads-now _ _ _ _ _ (c .for-now .ensures) (c .before .open-binding .ensures)
 
 pub meaning-spec : {M : Type 1} → statement M
-meaning-spec =
-    tie.close
-    (tie.spec
-    mul-place
-    shared-slice-read-place
-    cast-place
-    sub-read-binding
-    part-read-binding-start
-    part-read-binding-end
-    slice-aggregate-read-binding
-    read-binding-requires
-    enum-known-binding
-    follow-target-requires
-    enum-told
-    returns
-    returns-2)
+meaning-spec = tie.close (tie.spec open-binding-requires for-now-requires returns)
