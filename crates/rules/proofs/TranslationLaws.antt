@@ -50,7 +50,8 @@ module _ {A B : Type 0} (T : A → B → Type 0) where
     order-one (omitted n o) (omitted m p) = order-one o p
 
 module _ (M : Meaning) (one : (S : Space) (p : Path) (k k′ : Key) → M S p k → M S p k′ → k ≡ k′) (t : Table) where
-  access-one : (x : AccessRecord) (y z : KeyAccess) → AccessToKeys M t x y → AccessToKeys M t x z → y ≡ z
+  -- A record becomes one.
+  pub access-one : (x : AccessRecord) (y z : KeyAccess) → AccessToKeys M t x y → AccessToKeys M t x z → y ≡ z
   access-one x y z a b = λ d. record {
     owner = self-one (a .owner) (b .owner) d;
     object = (sym (a .object) ∙ b .object) d;
@@ -59,7 +60,7 @@ module _ (M : Meaning) (one : (S : Space) (p : Path) (k k′ : Key) → M S p k 
     depth = (sym (a .depth) ∙ b .depth) d;
   }
 
-  delegation-one : (x : Delegation) (y z : KeyDelegation) → DelegationToKeys M t x y → DelegationToKeys M t x z → y ≡ z
+  pub delegation-one : (x : Delegation) (y z : KeyDelegation) → DelegationToKeys M t x y → DelegationToKeys M t x z → y ≡ z
   delegation-one x y z a b = λ d. record {
     writer = self-one (a .writer) (b .writer) d;
     owner = one (x .writer) (x .ownerPath) (y .owner) (z .owner) (a .owner) (b .owner) d;

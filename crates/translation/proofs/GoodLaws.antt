@@ -1,5 +1,5 @@
 -- A good table's translation is a good key table, and there is one.
-use mathlib.Core.Path.{_≡_, sym, _∙_}
+use mathlib.Core.Path.{_≡_}
 use mathlib.Core.List.{List}
 use Prim.Native.Nat.{ℕ}
 use native.Mathlib.Omega.{arith}
@@ -11,8 +11,9 @@ use Rattle.rules.specs.KeyTables.{KeyAccess, KeyDelegation, KeyTable}
 use Rattle.rules.specs.Translation.{AccessToKeys, DelegationToKeys, Translates}
 use Rattle.rules.specs.declared.Key.{Key}
 use Rattle.rules.specs.declared.Space.{Space}
-use Rattle.rules.proofs.NamesLaws.{self-one, meaning-one}
+use Rattle.rules.proofs.NamesLaws.{meaning-one}
 use Rattle.rules.proofs.TranslationLaws.{order-from}
+use Rattle.rules.proofs.TranslationLaws as laws
 use Rattle.rules.proofs.VerdictsLaws.{translates}
 use Rattle.table.specs.ReadTable.{tableAt}
 use Rattle.translation.specs.Becoming.{keyTableAt}
@@ -27,23 +28,10 @@ means-good t good (boundToName m s o m′) = means-good t good m′
 module _ (t : Table) (good : Good t) where
   -- ---- a record becomes one
   pub access-one : (x : AccessRecord) (y z : KeyAccess) → AccessToKeys (Means (t .names)) t x y → AccessToKeys (Means (t .names)) t x z → y ≡ z
-  access-one x y z a b = λ d. record {
-    owner = self-one (a .owner) (b .owner) d;
-    object = (sym (a .object) ∙ b .object) d;
-    right = (sym (a .right) ∙ b .right) d;
-    subject = meaning-one (t .names) (good .names) (a .subject) (b .subject) d;
-    depth = (sym (a .depth) ∙ b .depth) d;
-  }
+  access-one = laws.access-one (Means (t .names)) (λ S p k k′ a b. meaning-one (t .names) (good .names) a b) t
 
   pub delegation-one : (x : Delegation) (y z : KeyDelegation) → DelegationToKeys (Means (t .names)) t x y → DelegationToKeys (Means (t .names)) t x z → y ≡ z
-  delegation-one x y z a b = λ d. record {
-    writer = self-one (a .writer) (b .writer) d;
-    owner = meaning-one (t .names) (good .names) (a .owner) (b .owner) d;
-    object = (sym (a .object) ∙ b .object) d;
-    right = (sym (a .right) ∙ b .right) d;
-    delegatee = meaning-one (t .names) (good .names) (a .delegatee) (b .delegatee) d;
-    depth = (sym (a .depth) ∙ b .depth) d;
-  }
+  delegation-one = laws.delegation-one (Means (t .names)) (λ S p k k′ a b. meaning-one (t .names) (good .names) a b) t
 
   -- ---- and a good one
   access-good : (x : AccessRecord) (y : KeyAccess) → GoodAccess (length (t .names .spaces)) x → AccessToKeys (Means (t .names)) t x y → GoodKeyAccess y

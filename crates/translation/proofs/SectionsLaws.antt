@@ -1,38 +1,18 @@
 -- A section's records, written before their count: what is moved, and the count put before it.
 use mathlib.Core.Path.{_≡_, refl, sym, _∙_, ap, subst}
-use mathlib.Core.List.{List, [], _∷_, _++_, append-assoc}
+use mathlib.Core.List.{List, [], _∷_, _++_}
 use Prim.Native.Nat.{ℕ, suc, _+_, _-_, _/_, _<_, _≤_}
 use native.Mathlib.Numerals.{add-one}
 use native.Mathlib.Omega.{arith}
-use lib.ListN.{length, take, drop, set, getD, length-set, length-drop, length-append, take-append-drop}
-use lib.Seq.{drop-cons, getD-take, take-at, drop-drop, length-take-le}
+use lib.ListN.{length, take, drop, set, getD, length-set, length-drop, length-append}
+use lib.Seq.{drop-cons, getD-take, take-at, length-take-le}
 use Rattle.wire.specs.Number.{bytesOf}
 use Rattle.wire.specs.Placed.{placed}
 use Rattle.wire.proofs.NumberLaws.{bytes-last, bytes-on, bytes-some}
-use Rattle.wire.proofs.PlacedLaws.{placed-none, placed-one, placed-length, placed-before, placed-after, placed-drop}
+use Rattle.wire.proofs.PlacedLaws.{placed-none, placed-one, placed-length, placed-before, placed-drop, placed-under, placed-over, placed-again}
 use Rattle.records.specs.Many.{manyBytes}
 use Rattle.table.specs.ReadTable.{sectionBytes}
 use Rattle.translation.specs.declared.sections.Written.{Written}
-
--- ---- writes that meet
--- Two writes, the second right before the first, are one write of both.
-placed-under : (s x y : List ℕ) (at : ℕ) → at + length x + length y ≤ length s → placed (placed s (at + length x) y) at x ≡ placed s at (x ++ y)
-unfolding placed
-placed-under s x y at h =
-    let n : at + length (x ++ y) ≡ at + length x + length y = simp length-append (omega arith) in
-    rw (placed-before s y (at + length x) h at (omega arith), placed-drop s y (at + length x) h, n) (simp append-assoc)
-
--- A write that covers an earlier one.
-placed-over : (s x y : List ℕ) (a b : ℕ) → a + length x ≤ length s → b ≤ a → a + length x ≤ b + length y → placed (placed s a x) b y ≡ placed s b y
-unfolding placed
-placed-over s x y a b h l m = rw (placed-before s x a h b l, placed-after s x a h (b + length y) m)
-
--- What stands somewhere, placed there.
-placed-again : (s : List ℕ) (at n : ℕ) → at + n ≤ length s → placed s at (take n (drop at s)) ≡ s
-unfolding placed
-placed-again s at n h =
-    let e : length (take n (drop at s)) ≡ n = length-take-le n (drop at s) (simp length-drop (omega arith)) in
-    rw (e, ← drop-drop n at s, take-append-drop, take-append-drop)
 
 -- ---- what is moved up by one place, its last byte first
 -- The bytes from `i` on are moved.

@@ -66,6 +66,25 @@ pub placed-next : (s x y first last : List ℕ) (at next : ℕ) → first ≡ pl
     → last ≡ placed first next y → last ≡ placed s at (x ++ y)
 placed-next s x y first last at next e n h f = f ∙ rw (e, n) (placed-on s x y at (omega arith))
 
+-- Two writes, the second right before the first, are one write of both.
+pub placed-under : (s x y : List ℕ) (at : ℕ) → at + length x + length y ≤ length s → placed (placed s (at + length x) y) at x ≡ placed s at (x ++ y)
+unfolding placed
+placed-under s x y at h =
+    let n : at + length (x ++ y) ≡ at + length x + length y = simp length-append (omega arith) in
+    rw (placed-before s y (at + length x) h at (omega arith), placed-drop s y (at + length x) h, n) (simp append-assoc)
+
+-- A write that covers an earlier one.
+pub placed-over : (s x y : List ℕ) (a b : ℕ) → a + length x ≤ length s → b ≤ a → a + length x ≤ b + length y → placed (placed s a x) b y ≡ placed s b y
+unfolding placed
+placed-over s x y a b h l m = rw (placed-before s x a h b l, placed-after s x a h (b + length y) m)
+
+-- What stands somewhere, placed there.
+pub placed-again : (s : List ℕ) (at n : ℕ) → at + n ≤ length s → placed s at (take n (drop at s)) ≡ s
+unfolding placed
+placed-again s at n h =
+    let e : length (take n (drop at s)) ≡ n = length-take-le n (drop at s) (simp length-drop (omega arith)) in
+    rw (e, ← drop-drop n at s, take-append-drop, take-append-drop)
+
 -- `&mut s[a..]` that comes back with a write at `at` of it: a write of the whole.
 pub placed-in-rest : (s last bytes : List ℕ) (a at : ℕ) → last ≡ placed (take (length s - a) (drop a s)) at bytes
     → putMid a (length s - a) s last ≡ placed s (a + at) bytes
