@@ -1,5 +1,4 @@
 // Whether a derivation holds, over a table that was found good.
-ghost use mathlib.Core.Path.{_≡_};
 ghost use Prim.Native.Nat.{_<_, _≤_};
 ghost use lib.ListN.{length};
 ghost use Rattle.records.specs.Targets.{targetOf};

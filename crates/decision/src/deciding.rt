@@ -3,7 +3,7 @@ ghost use mathlib.Core.Path.{_≡_};
 ghost use Prim.Native.Nat.{suc, _<_, _≤_};
 ghost use lib.ListN.{length, take};
 ghost use Rattle.rules.specs.Depths.{top};
-ghost use Rattle.rules.specs.Ranges.{mostAccesses, mostBindings, mostDelegations};
+ghost use Rattle.rules.specs.Ranges.{mostBindings};
 ghost use Rattle.records.specs.DerivationBytes.{mostDerivation};
 ghost use Rattle.records.specs.Targets.{targetOf};
 ghost use Rattle.table.specs.ReadTable.{tableAt};

@@ -9,7 +9,7 @@ use lib.ListN.{length, take}
 use Rattle.rules.specs.Lists.{At}
 use Rattle.rules.specs.Ranges.{Good, GoodKey, GoodTarget, GoodRequest, GoodKeyRequest}
 use Rattle.rules.specs.Tables.{Target, toKey, toName, Request, Table}
-use Rattle.rules.specs.Names.{Means, TargetMeans, IsSelf}
+use Rattle.rules.specs.Names.{Means, TargetMeans}
 use Rattle.rules.specs.Access.{Setting, Granted, setting}
 use Rattle.rules.specs.KeyTables.{KeyRequest, keySetting}
 use Rattle.rules.specs.Translation.{Translates}

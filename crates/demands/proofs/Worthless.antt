@@ -1,6 +1,5 @@
 -- Worthless builds are shut out.
 use mathlib.Core.Path.{_≡_, sym, _∙_}
-use mathlib.Core.List.{List}
 use Prim.Native.Nat.{ℕ}
 use native.Mathlib.Omega.{arith}
 use Rattle.translation.specs.declared.Translated.{Translated}

@@ -4,6 +4,7 @@ ghost use Rattle.records.specs.Fields.{anyNumber, field, spaceField, key
 use crate::faults::Fault;
 use crate::faults::Kind;
 use crate::faults::fault_at;
+use crate::reader::number_at;
 use rules::Depth;
 use rules::Key;
 use rules::Made;
@@ -68,7 +69,7 @@ pub fn read_number(s: &[u8], at: usize) -> Field
 pub fn read_field(s: &[u8], at: usize, low: u32, high: u32) -> Field
     ensures { λ r. ⌜ r ≡ fieldRead (field low high (now (s .entry)) at) ⌝ }
 {
-    let number = read_number(s, at);
+    let number = number_at(s, at);
     let Field::Value(value, next) = number else {
         return number;
     };
@@ -95,7 +96,7 @@ pub fn field_fault(number: Field) -> Fault
 pub fn read_space(s: &[u8], at: usize, spaces: usize) -> SpaceRead
     ensures { λ r. ⌜ r ≡ spaceRead (spaceField spaces (now (s .entry)) at) ⌝ }
 {
-    let number = read_number(s, at);
+    let number = number_at(s, at);
     let Field::Value(value, next) = number else {
         return SpaceRead::Fault(field_fault(number));
     };
@@ -119,7 +120,7 @@ pub fn read_key(s: &[u8], at: usize) -> KeyRead
 pub fn read_depth(s: &[u8], at: usize) -> DepthRead
     ensures { λ r. ⌜ r ≡ depthRead (depthField (now (s .entry)) at) ⌝ }
 {
-    let number = read_number(s, at);
+    let number = number_at(s, at);
     let Field::Value(value, next) = number else {
         return DepthRead::Fault(field_fault(number));
     };

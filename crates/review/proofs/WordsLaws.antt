@@ -11,7 +11,6 @@ use borrow.Author.Tests.{lt-ltb, le-ltb, eq-eqb, ne-eqb}
 use Rattle.rules.specs.Choice.{pick}
 use Rattle.wire.specs.Number.{mostNumber}
 use Rattle.review.specs.Words.{digitsAfter, numberSaid, alike}
-use Rattle.review.specs.declared.words.Word.{Word}
 use Rattle.review.specs.declared.words.Word.the-variants.{Number, Not}
 
 one-more : (i : ℕ) → suc i ≡ i + 1

@@ -1,6 +1,5 @@
 -- The depth that is told after a step.
 use mathlib.Core.Path.{_≡_}
-use Prim.Native.Nat.{ℕ}
 use Rattle.rules.specs.Depths.{Step}
 use Rattle.rules.specs.declared.Depth.{Depth}
 use Rattle.review.specs.declared.recounting.Recounted.{Recounted}

@@ -5,9 +5,6 @@ use Rattle.rules.specs.Choice.{pick}
 use borrow.Author.Needs.{needs}
 use Rattle.keytable.proofs.loading.one_if_asked.Statement.{statement}
 use Rattle.keytable.proofs.loading.one_if_asked.Tie as tie
-use Rattle.keytable.proofs.loading.one_if_asked.Reads as reads
-use Rattle.keytable.proofs.loading.one_if_asked.Lts as lts
-use Rattle.keytable.proofs.matching.is_asked.Reads as is-asked-reads
 
 -- src/loading.rt:50:8
 is-asked-requires : tie.Need-is-asked-requires

@@ -1,5 +1,4 @@
 -- `read_delegations` goes on as `many` of them does, each read from the rest of the bytes, and keeps the places of those that are for what is asked.
-use mathlib.Core.Path.{_∙_}
 use Prim.Native.Nat.{_-_}
 use native.Mathlib.Omega.{arith}
 use lib.ListN.{length}
@@ -12,11 +11,6 @@ use Rattle.keytable.proofs.SiftingLaws.{Sifting, sifting-start, sifting
 use borrow.Author.Needs.{needs}
 use Rattle.keytable.proofs.loading.read_delegations.Statement.{statement}
 use Rattle.keytable.proofs.loading.read_delegations.Tie as tie
-use Rattle.keytable.proofs.loading.read_delegations.Reads as reads
-use Rattle.keytable.proofs.loading.read_delegations.Lts as lts
-use Rattle.keytable.proofs.loading.one_if_asked.Reads as one-if-asked-reads
-use Rattle.records.proofs.faults.moved.Reads as moved-reads
-use Rattle.records.proofs.keys.read_key_delegation.Reads as read-key-delegation-reads
 
 abbrev Inv-loop : tie.InvT-loop
 Inv-loop table from count request places₀ at₀ i₀ n₀ places at i n = Sifting keyDelegationRecord key-delegation-walks (delegationAsked (keyRequestOf request .asked)) table count from (length places₀) places at i n

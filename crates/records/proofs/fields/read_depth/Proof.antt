@@ -4,8 +4,8 @@ use borrow.Author.Needs.{needs}
 use Rattle.records.proofs.fields.read_depth.Statement.{statement}
 use Rattle.records.proofs.fields.read_depth.Tie as tie
 
-read-number-requires : tie.Need-read-number-requires
-read-number-requires c κs = search needs
+number-at-requires : tie.Need-number-at-requires
+number-at-requires c κs = search needs
 
 enum-known-number : tie.Need-enum-known-number
 enum-known-number c = search needs
@@ -17,7 +17,7 @@ field-fault-requires : tie.Need-field-fault-requires
 field-fault-requires c κs = search needs
 
 returns : tie.Need-returns
-returns c = depth-fails _ _ _ (c .before .before .before .read-number .ensures) _ _ (c .before .enum-told .given .1) (c .field-fault .ensures)
+returns c = depth-fails _ _ _ (c .before .before .before .number-at .ensures) _ _ (c .before .enum-told .given .1) (c .field-fault .ensures)
 
 new-requires : tie.Need-new-requires
 new-requires c κs = search needs
@@ -32,16 +32,16 @@ fault-at-requires : tie.Need-fault-at-requires
 fault-at-requires c κs = search needs
 
 returns-2 : tie.Need-returns-2
-returns-2 c = depth-high _ _ _ (c .before .before .before .before .before .before .before .read-number .ensures) _ _ _ _ (c .before .before .before .before .before .number .given .1) (c .before .before .before .new .ensures) (c .before .enum-told2 .given .1) (c .fault-at .ensures)
+returns-2 c = depth-high _ _ _ (c .before .before .before .before .before .before .before .number-at .ensures) _ _ _ _ (c .before .before .before .before .before .number .given .1) (c .before .before .before .new .ensures) (c .before .enum-told2 .given .1) (c .fault-at .ensures)
 
 returns-3 : tie.Need-returns-3
-returns-3 c = depth-value _ _ _ (c .before .before .before .before .before .before .before .read-number .ensures) _ _ _ _ (c .before .before .before .before .before .number .given .1) (c .before .before .before .new .ensures) (c .before .made .given .1)
+returns-3 c = depth-value _ _ _ (c .before .before .before .before .before .before .before .number-at .ensures) _ _ _ _ (c .before .before .before .before .before .number .given .1) (c .before .before .before .new .ensures) (c .before .made .given .1)
 
 pub read-depth-spec : {M : Type 1} → statement M
 read-depth-spec =
     tie.close
     (tie.spec
-    read-number-requires
+    number-at-requires
     enum-known-number
     enum-told
     field-fault-requires

@@ -4,8 +4,8 @@ use borrow.Author.Needs.{needs}
 use Rattle.records.proofs.fields.read_field.Statement.{statement}
 use Rattle.records.proofs.fields.read_field.Tie as tie
 
-read-number-requires : tie.Need-read-number-requires
-read-number-requires c κs = search needs
+number-at-requires : tie.Need-number-at-requires
+number-at-requires c κs = search needs
 
 enum-known-number : tie.Need-enum-known-number
 enum-known-number c = search needs
@@ -14,28 +14,28 @@ enum-told : tie.Need-enum-told
 enum-told c = search needs
 
 returns : tie.Need-returns
-returns c = field-fails _ _ _ (c .before .before .read-number .ensures) _ _ _ (c .enum-told .given .1)
+returns c = field-fails _ _ _ (c .before .before .number-at .ensures) _ _ _ (c .enum-told .given .1)
 
 fault-at-requires : tie.Need-fault-at-requires
 fault-at-requires c κs = search needs
 
 returns-2 : tie.Need-returns-2
-returns-2 c = field-low _ _ _ (c .before .before .before .before .before .read-number .ensures) _ _ _ _ _ (c .before .before .before .number .given .1) (c .before .if1 .taken) (c .fault-at .ensures)
+returns-2 c = field-low _ _ _ (c .before .before .before .before .before .number-at .ensures) _ _ _ _ _ (c .before .before .before .number .given .1) (c .before .if1 .taken) (c .fault-at .ensures)
 
 fault-at-requires-2 : tie.Need-fault-at-requires-2
 fault-at-requires-2 c κs = search needs
 
 returns-3 : tie.Need-returns-3
-returns-3 c = field-high _ _ _ (c .before .before .before .before .before .before .read-number .ensures) _ _ _ _ _ (c .before .before .before .before .number .given .1) (c .before .before .if1 .left) (c .before .if2 .taken) (c .fault-at2 .ensures)
+returns-3 c = field-high _ _ _ (c .before .before .before .before .before .before .number-at .ensures) _ _ _ _ _ (c .before .before .before .before .number .given .1) (c .before .before .if1 .left) (c .before .if2 .taken) (c .fault-at2 .ensures)
 
 returns-4 : tie.Need-returns-4
-returns-4 c = field-value _ _ _ (c .before .before .before .before .before .read-number .ensures) _ _ _ _ (c .before .before .before .number .given .1) (c .before .if1 .left) (c .if2 .left)
+returns-4 c = field-value _ _ _ (c .before .before .before .before .before .number-at .ensures) _ _ _ _ (c .before .before .before .number .given .1) (c .before .if1 .left) (c .if2 .left)
 
 pub read-field-spec : {M : Type 1} → statement M
 read-field-spec =
     tie.close
     (tie.spec
-    read-number-requires
+    number-at-requires
     enum-known-number
     enum-told
     returns
