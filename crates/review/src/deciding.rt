@@ -1,9 +1,6 @@
 // review decide TABLE SAVE REQUEST: decides, explains a grant, and saves its derivation.
 use crate::answers::say_answer;
 use crate::answers::say_refusal;
-use crate::asking::ask;
-use crate::files::Part;
-use crate::files::read_file;
 use crate::files::write_file;
 use crate::opening::Task;
 use crate::opening::open;
@@ -12,7 +9,6 @@ use crate::printing::say_bytes;
 use crate::printing::say_count;
 use crate::printing::say_with;
 use crate::words::is_word;
-use crate::writing::Form;
 use kernel::answers::DONE;
 use kernel::answers::UNNAMED;
 use kernel::rustamgheb_decide;
@@ -41,7 +37,7 @@ fn grant(table: &[u8], request: &[u8], depth: u32, derivation: &[u8]) {
 }
 
 // Answers a request by a table. From Unnamed on it was read, and what the subject's name goes through is told.
-fn answer(table: &[u8], request: &[u8]) {
+pub fn answer(table: &[u8], request: &[u8]) {
     let mut sheet = [0u32; 256];
     let mut derivation = [0u8; 512];
     let told = rustamgheb_decide(table, request, &mut sheet, &mut derivation);
@@ -54,17 +50,4 @@ fn answer(table: &[u8], request: &[u8]) {
     if UNNAMED <= told.number {
         open(table, request, b"", Task::Explain);
     }
-}
-
-// Reads the table and the request, and answers.
-pub fn run() {
-    let mut first = io::large_buffer();
-    let Part::Whole(table) = read_file(2, &mut first) else {
-        return;
-    };
-    let mut second = io::large_buffer();
-    let Part::Whole(request) = ask(&mut second, 4, Form::Names) else {
-        return;
-    };
-    answer(&first[..table], &second[..request]);
 }

@@ -1,6 +1,5 @@
 -- The loop ends: the numbers that are left get fewer.
 use Prim.Native.Nat.{_-_}
-use native.Mathlib.Omega.{arith}
 use borrow.Author.Needs.{needs}
 use Rattle.review.proofs.explaining.explain_bindings.Statement.{statement}
 use Rattle.review.proofs.explaining.explain_bindings.Tie as tie

@@ -1,5 +1,4 @@
 -- The record's space and path fit the table.
-use native.Mathlib.Omega.{arith}
 use Rattle.matching.proofs.MatchingLaws.{few-spaces}
 use Rattle.review.proofs.FoundLaws.{access-known}
 use borrow.Author.Needs.{needs}

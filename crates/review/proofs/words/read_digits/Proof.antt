@@ -1,6 +1,5 @@
 -- What is left to read says the same as the whole; the digits that are left get fewer.
 use Prim.Native.Nat.{_-_}
-use native.Mathlib.Omega.{arith}
 use lib.ListN.{length}
 use Rattle.review.proofs.WordsLaws.{Reading, said-nothing, reading-start, digit-low, digit-high, too-large, reading-on, reading-end}
 use borrow.Author.Needs.{needs}

@@ -1,6 +1,5 @@
 -- Two words are compared from the front; the bytes that are left get fewer.
 use Prim.Native.Nat.{_-_}
-use native.Mathlib.Omega.{arith}
 use lib.ListN.{length}
 use Rattle.review.proofs.WordsLaws.{Comparing, other-length, comparing-start, other-byte, comparing-on, comparing-end}
 use borrow.Author.Needs.{needs}

@@ -1,7 +1,6 @@
 -- The buffer stays as long as it was, and the words that are left get fewer.
 use mathlib.Core.Path.{_≡_}
 use Prim.Native.Nat.{_-_}
-use native.Mathlib.Omega.{arith}
 use lib.ListN.{length}
 use borrow.Author.Needs.{needs}
 use Rattle.review.proofs.writing.put_words.Statement.{statement}

@@ -1,8 +1,8 @@
 -- What was read stands within its buffer.
 use Rattle.review.proofs.PartsLaws.{whole-fits}
 use borrow.Author.Needs.{needs}
-use Rattle.review.proofs.deciding.run.Statement.{statement}
-use Rattle.review.proofs.deciding.run.Tie as tie
+use Rattle.review.proofs.decide.Statement.{statement}
+use Rattle.review.proofs.decide.Tie as tie
 
 large-buffer-requires : tie.Need-large-buffer-requires
 large-buffer-requires c κs = search needs
@@ -43,23 +43,23 @@ returns-2 c = search needs
 array-share-prefix-first : tie.Need-array-share-prefix-first
 array-share-prefix-first c = whole-fits _ _ _ (c .before .before .before .before .before .before .before .before .before .before .before .read-file .ensures) (c .before .before .before .before .before .before .before .before .table .given .1) .0
 
-slice-aggregate-answer : tie.Need-slice-aggregate-answer
-slice-aggregate-answer c = whole-fits _ _ _ (c .before .before .before .before .before .before .before .before .before .before .before .before .read-file .ensures) (c .before .before .before .before .before .before .before .before .before .table .given .1) .1
+slice-aggregate-answer-by : tie.Need-slice-aggregate-answer-by
+slice-aggregate-answer-by c = whole-fits _ _ _ (c .before .before .before .before .before .before .before .before .before .before .before .before .read-file .ensures) (c .before .before .before .before .before .before .before .before .before .table .given .1) .1
 
 array-share-prefix-second : tie.Need-array-share-prefix-second
 array-share-prefix-second c = whole-fits _ _ _ (c .before .before .before .before .before .ask .ensures) (c .before .before .request .given .1) .0
 
-slice-aggregate-answer-2 : tie.Need-slice-aggregate-answer-2
-slice-aggregate-answer-2 c = whole-fits _ _ _ (c .before .before .before .before .before .before .ask .ensures) (c .before .before .before .request .given .1) .1
+slice-aggregate-answer-by-2 : tie.Need-slice-aggregate-answer-by-2
+slice-aggregate-answer-by-2 c = whole-fits _ _ _ (c .before .before .before .before .before .before .ask .ensures) (c .before .before .before .request .given .1) .1
 
-answer-requires : tie.Need-answer-requires
-answer-requires c κs = search needs
+answer-by-requires : tie.Need-answer-by-requires
+answer-by-requires c κs = search needs
 
 returns-3 : tie.Need-returns-3
 returns-3 c = search needs
 
-pub run-spec : {M : Type 1} → statement M
-run-spec =
+pub decide-spec : {M : Type 1} → statement M
+decide-spec =
     tie.close
     (tie.spec
     large-buffer-requires
@@ -75,8 +75,8 @@ run-spec =
     enum-told-2
     returns-2
     array-share-prefix-first
-    slice-aggregate-answer
+    slice-aggregate-answer-by
     array-share-prefix-second
-    slice-aggregate-answer-2
-    answer-requires
+    slice-aggregate-answer-by-2
+    answer-by-requires
     returns-3)
