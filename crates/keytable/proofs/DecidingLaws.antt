@@ -19,6 +19,7 @@ use Rattle.records.specs.declared.requests.KeyRequestRead.the-variants as asked
 use Rattle.table.specs.ReadKeyTable.{KeyLaid, keyTableOf, readKeyTable}
 use Rattle.reach.proofs.CodesLaws.{code-depth}
 use Rattle.keytable.specs.Loading.{keyTableAt}
+use Rattle.keytable.specs.Keeping.{askedIn}
 use Rattle.keytable.specs.Matching.{keyRequestOf}
 use Rattle.keytable.specs.Deciding.{KeyDecides, denied, granted}
 use Rattle.keytable.specs.Settling.{answerOf}
@@ -31,9 +32,9 @@ pub asked-none : (o : Option KeyRequest) (r : KeyRequestRead) → r ≡ keyReque
 asked-none none r a b = refl
 asked-none (some x) r a b = let z : _≡_ {A = ℕ} 0 1 = cc in absurd (omega arith)
 
-pub asked-some : (o : Option KeyRequest) (r : KeyRequestRead) (v : KeyRequestValue) → r ≡ keyRequestRead o → r ≡ asked.KeyRequest v → o ≡ some (keyRequestOf v)
-asked-some none r v a b = let z : _≡_ {A = ℕ} 0 1 = cc in absurd (omega arith)
-asked-some (some x) r v a b = let q : v ≡ keyRequestValue x = cc in ap some (sym (ap keyRequestOf q))
+pub asked-some : (o : Option KeyRequest) (r : KeyRequestRead) (v a : KeyRequestValue) → r ≡ keyRequestRead o → r ≡ asked.KeyRequest v → a ≡ askedIn r → o ≡ some (keyRequestOf a)
+asked-some none r v a e h i = let z : _≡_ {A = ℕ} 0 1 = cc in absurd (omega arith)
+asked-some (some x) r v a e h i = let q : a ≡ keyRequestValue x = i ∙ ap askedIn e in ap some (sym (ap keyRequestOf q))
 
 -- ---- the answer of a code
 pub code-denied : (c : ℕ) → c ≡ 0 → answer.Denied ≡ answerOf c

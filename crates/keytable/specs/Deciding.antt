@@ -26,7 +26,3 @@ pub data KeyDecides (table request : List ℕ) : KeyAnswer → Type 0 where
   -- 0, Granted: the key rules give the subject access, and this is the greatest depth.
   granted : {l : KeyLaid} {end : ℕ} {r : KeyRequest} {d : Depth} → readKeyTable table ≡ got l end → readKeyRequest request ≡ some r
       → DecidesByKeys (keyTableOf l) r (verdicts.granted (d .0)) → KeyDecides table request (answer.Granted d)
-
--- The answer to this request, by whatever bytes it was asked.
-pub record KeyAnswers (table : List ℕ) (r : KeyRequest) (a : KeyAnswer) : Type 0 where
-  pub decides : (request : List ℕ) → readKeyRequest request ≡ some r → KeyDecides table request a

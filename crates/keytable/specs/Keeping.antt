@@ -12,9 +12,17 @@ use Rattle.rules.specs.KeyTables.{KeyAccess, KeyDelegation, KeyTable}
 use Rattle.rules.specs.declared.Key.{Key}
 use Rattle.records.specs.Parsed.{Reader}
 use Rattle.records.specs.KeyRecords.{keyAccessRecord, keyDelegationRecord}
+use Rattle.records.specs.declared.requests.KeyRequest.{KeyRequest as KeyRequestValue}
+use Rattle.records.specs.declared.requests.KeyRequestRead.{KeyRequestRead}
+use Rattle.records.specs.declared.requests.KeyRequestRead.the-variants as asked
 use Rattle.table.specs.Kept.{Standing}
 use Rattle.table.specs.ReadKeyTable.{KeyLaid}
 use Rattle.keytable.specs.Loading.{keyTableAt}
+
+-- What a key request asks; without one, what no record is for, as no key is 0.
+abbrev pub askedIn : KeyRequestRead → KeyRequestValue
+askedIn (asked.KeyRequest r) = r
+askedIn asked.Not = record { subject = record { 0 = 0 }; owner = record { 0 = 0 }; wanted = record { object = 0; right = 0 } }
 
 -- Whether a record for this owner, object and right is for what is asked.
 unfoldable pub isAsked : Asked Key → Key → ℕ → ℕ → Bool

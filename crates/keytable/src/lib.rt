@@ -7,9 +7,9 @@ ghost use Rattle.records.specs.Parsed.{bad};
 ghost use Rattle.table.specs.Kept.{IfGood};
 ghost use Rattle.table.specs.ReadKeyTable.{readKeyTable};
 ghost use Rattle.keytable.specs.Loading.{keyLoadedOf};
-ghost use Rattle.keytable.specs.Keeping.{KeysKept};
+ghost use Rattle.keytable.specs.Keeping.{askedIn, KeysKept};
 ghost use Rattle.keytable.specs.Matching.{keyRequestOf};
-ghost use Rattle.keytable.specs.Deciding.{KeyDecides, KeyAnswers};
+ghost use Rattle.keytable.specs.Deciding.{KeyDecides};
 use crate::deciding::answer_of;
 use crate::deciding::greatest_code;
 use crate::loading::load_accesses;
@@ -69,7 +69,7 @@ fn none_kept(fault: Fault) -> KeyKept
 }
 
 // Reads the key table whole, and keeps where those records stand that are for what is asked.
-pub fn load_asked(
+fn load_asked(
     table: &[u8],
     request: KeyRequest,
     accesses: &mut [u16],
@@ -112,21 +112,30 @@ pub fn load_asked(
     none_kept(fault_at(Kind::Extra, end))
 }
 
+// What a key request asks; without one, what no record is for.
+fn asked_in(read: KeyRequestRead) -> KeyRequest
+    ensures { λ r. ⌜ r ≡ askedIn read ⌝ }
+{
+    match read {
+        KeyRequestRead::KeyRequest(asked) => asked,
+        KeyRequestRead::Not => KeyRequest {
+            subject: Key(0),
+            owner: Key(0),
+            wanted: Use {
+                object: 0,
+                right: 0,
+            },
+        },
+    }
+}
+
 // Reads the key table whole.
 pub fn load_key_table(table: &[u8]) -> KeyLoaded
     ensures { λ r. ⌜ r ≡ keyLoadedOf (readKeyTable (now (table .entry))) ⌝ }
 {
     let mut accesses = [0; 256];
     let mut delegations = [0; 512];
-    let nobody = Key(0);
-    let nothing = KeyRequest {
-        subject: nobody,
-        owner: nobody,
-        wanted: Use {
-            object: 0,
-            right: 0,
-        },
-    };
+    let nothing = asked_in(KeyRequestRead::Not);
     let found = load_asked(table, nothing, &mut accesses, &mut delegations);
     found.loaded
 }
@@ -139,36 +148,28 @@ pub enum KeyAnswer {
     Granted(Depth),
 }
 
-// Decides a good key request over a key table.
-fn decide_asked(table: &[u8], request: KeyRequest) -> KeyAnswer
-    ensures { λ r. ⌜ KeyAnswers (now (table .entry)) (keyRequestOf request) r ⌝ }
+// Decides a key request over a key table.
+pub fn decide_by_keys(table: &[u8], request: &[u8]) -> KeyAnswer
+    ensures { λ r. ⌜ KeyDecides (now (table .entry)) (now (request .entry)) r ⌝ }
 {
     let mut accesses = [0; 256];
     let mut delegations = [0; 512];
-    let found = load_asked(table, request, &mut accesses, &mut delegations);
+    let read = read_key_request(request);
+    let asked = asked_in(read);
+    let found = load_asked(table, asked, &mut accesses, &mut delegations);
     let loaded = found.loaded;
     let access_count = found.accesses;
     let delegation_count = found.delegations;
     match loaded {
         KeyLoaded::Bad(fault) => KeyAnswer::Fault(fault),
-        KeyLoaded::Good(_) => answer_of(greatest_code(
-            table,
-            &accesses[..access_count],
-            &delegations[..delegation_count],
-            request,
-        )),
-    }
-}
-
-// Decides a key request over a key table.
-pub fn decide_by_keys(table: &[u8], request: &[u8]) -> KeyAnswer
-    ensures { λ r. ⌜ KeyDecides (now (table .entry)) (now (request .entry)) r ⌝ }
-{
-    match read_key_request(request) {
-        KeyRequestRead::KeyRequest(asked) => decide_asked(table, asked),
-        KeyRequestRead::Not => match load_key_table(table) {
-            KeyLoaded::Bad(fault) => KeyAnswer::Fault(fault),
-            KeyLoaded::Good(_) => KeyAnswer::Request,
+        KeyLoaded::Good(_) => match read {
+            KeyRequestRead::Not => KeyAnswer::Request,
+            KeyRequestRead::KeyRequest(_) => answer_of(greatest_code(
+                table,
+                &accesses[..access_count],
+                &delegations[..delegation_count],
+                asked,
+            )),
         },
     }
 }

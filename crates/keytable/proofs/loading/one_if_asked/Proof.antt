@@ -6,15 +6,12 @@ use borrow.Author.Needs.{needs}
 use Rattle.keytable.proofs.loading.one_if_asked.Statement.{statement}
 use Rattle.keytable.proofs.loading.one_if_asked.Tie as tie
 
--- src/loading.rt:50:8
 is-asked-requires : tie.Need-is-asked-requires
 is-asked-requires c κs = search needs
 
--- src/loading.rt:51:9
 returns : tie.Need-returns
 returns c = ap (λ (b : Bool). pick b 1 0) (sym (c .if1 .taken) ∙ c .before .is-asked .ensures)
 
--- src/loading.rt:47:1
 returns-2 : tie.Need-returns-2
 returns-2 c = ap (λ (b : Bool). pick b 1 0) (sym (c .if1 .left) ∙ c .before .is-asked .ensures)
 
