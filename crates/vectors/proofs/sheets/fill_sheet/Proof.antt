@@ -44,8 +44,11 @@ slice-aggregate-fill-2 c = let h = few-bindings-read _ (record { small = λ i. c
 slice-aggregate-fill-3 : tie.Need-slice-aggregate-fill-3
 slice-aggregate-fill-3 c = search needs
 
+slice-aggregate-fill-4 : tie.Need-slice-aggregate-fill-4
+slice-aggregate-fill-4 c = search needs
+
 fill-requires : tie.Need-fill-requires
-fill-requires c κs = let read = read-table _ _ _ (c .before .before .before .before .before .before .before .before .before .before .before .before .before .before .before .load-index .ensures .0) (c .before .before .before .before .before .before .before .before .sections .given .1) in let h = few-bindings-read _ (record { small = λ i. c .before .before .before .before .before .before .before .before .before .before .before .before .before .before .before .before .before .before .before .before .before .before .before .shared-slice-known .given i .fits }) _ read in let n = length-take-le (c .before .before .before .before .before .before .before .before .sections .given .0 .0 .bindings .count) (c .before .before .before .before .before .before .before .before .before .before .before .before .before .before .before .load-index .last .1 .1 .0) (omega (arith, h, c .before .before .before .before .before .before .before .before .before .before .before .before .before .names2 .given)) in (known-read _ (record { small = λ i. c .before .before .before .before .before .before .before .before .before .before .before .before .before .before .before .before .before .before .before .before .before .before .before .shared-slice-known .given i .fits }) _ read (c .before .before .before .before .before .before .before .before .before .before .before .before .before .before .before .load-index .last .1 .0) (c .before .before .before .before .before .before .before .before .before .before .before .before .before .before .before .load-index .last .1 .1 .0) (c .before .before .before .before .before .before .before .before .before .before .before .before .before .before .before .load-index .last .1 .1 .1 .0) (c .before .before .before .before .before .before .before .before .before .before .before .before .before .before .before .load-index .last .1 .1 .1 .1 .0) (c .before .before .before .before .before .before .before .before .before .before .before .before .before .before .before .load-index .last .1 .1 .1 .1 .1 .0) (c .before .before .before .before .before .before .before .before .before .before .before .before .before .before .before .load-index .ensures .1) (omega (arith, c .before .before .before .before .before .before .before .before .before .before .before .before .bindings2 .given)), omega (arith, n, h, c .before .before .before .before .before .before .before .before .before .before .before .before .before .before .before .before .before .before .before .before .before .before .before .before .pre .0), omega (arith, n, h, c .before .before .before .before .before .before .before .before .before .before .before .before .before .before .before .before .before .before .before .before .before .before .before .before .pre .1))
+fill-requires c κs = let read = read-table _ _ _ (c .before .before .before .before .before .before .before .before .before .before .before .before .before .before .before .before .load-index .ensures .0) (c .before .before .before .before .before .before .before .before .before .sections .given .1) in let h = few-bindings-read _ (record { small = λ i. c .before .before .before .before .before .before .before .before .before .before .before .before .before .before .before .before .before .before .before .before .before .before .before .before .shared-slice-known .given i .fits }) _ read in let n = length-take-le (c .before .before .before .before .before .before .before .before .before .sections .given .0 .0 .bindings .count) (c .before .before .before .before .before .before .before .before .before .before .before .before .before .before .before .before .load-index .last .1 .1 .0) (omega (arith, h, c .before .before .before .before .before .before .before .before .before .before .before .before .before .before .names2 .given)) in (known-read _ (record { small = λ i. c .before .before .before .before .before .before .before .before .before .before .before .before .before .before .before .before .before .before .before .before .before .before .before .before .shared-slice-known .given i .fits }) _ read (c .before .before .before .before .before .before .before .before .before .before .before .before .before .before .before .before .load-index .last .1 .0) (c .before .before .before .before .before .before .before .before .before .before .before .before .before .before .before .before .load-index .last .1 .1 .0) (c .before .before .before .before .before .before .before .before .before .before .before .before .before .before .before .before .load-index .last .1 .1 .1 .0) (c .before .before .before .before .before .before .before .before .before .before .before .before .before .before .before .before .load-index .last .1 .1 .1 .1 .0) (c .before .before .before .before .before .before .before .before .before .before .before .before .before .before .before .before .load-index .last .1 .1 .1 .1 .1 .0) (c .before .before .before .before .before .before .before .before .before .before .before .before .before .before .before .before .load-index .ensures .1) (omega (arith, c .before .before .before .before .before .before .before .before .before .before .before .before .before .bindings2 .given)), omega (arith, n, h, c .before .before .before .before .before .before .before .before .before .before .before .before .before .before .before .before .before .before .before .before .before .before .before .before .before .pre .0), omega (arith, n, h, c .before .before .before .before .before .before .before .before .before .before .before .before .before .before .before .before .before .before .before .before .before .before .before .before .before .pre .1), omega (arith, n, h))
 
 enum-known-fault : tie.Need-enum-known-fault
 enum-known-fault c = search needs
@@ -57,7 +60,7 @@ same-length-2 : tie.Need-same-length-2
 same-length-2 c = search needs
 
 returns : tie.Need-returns
-returns c = let read = read-table _ _ _ (c .before .before .before .before .before .before .before .before .before .before .before .before .before .before .before .before .before .before .before .before .load-index .ensures .0) (c .before .before .before .before .before .before .before .before .before .before .before .before .before .sections .given .1) in let h = few-bindings-read _ (record { small = λ i. c .before .before .before .before .before .before .before .before .before .before .before .before .before .before .before .before .before .before .before .before .before .before .before .before .before .before .before .before .shared-slice-known .given i .fits }) _ read in sheet-filled _ _ read _ _ _ _ (omega (arith, h, c .before .before .before .sheet .given, c .before .before .before .before .before .before .before .before .before .before .before .before .before .before .before .before .before .before .before .before .before .before .before .before .before .before .before .before .before .pre .0)) (c .before .before .before .before .fill .ensures)
+returns c = let read = read-table _ _ _ (c .before .before .before .before .before .before .before .before .before .before .before .before .before .before .before .before .before .before .before .before .before .before .load-index .ensures .0) (c .before .before .before .before .before .before .before .before .before .before .before .before .before .before .before .sections .given .1) in let h = few-bindings-read _ (record { small = λ i. c .before .before .before .before .before .before .before .before .before .before .before .before .before .before .before .before .before .before .before .before .before .before .before .before .before .before .before .before .before .before .shared-slice-known .given i .fits }) _ read in sheet-filled _ _ read _ _ _ _ (omega (arith, h, c .before .before .before .before .sheet .given, c .before .before .before .before .before .before .before .before .before .before .before .before .before .before .before .before .before .before .before .before .before .before .before .before .before .before .before .before .before .before .before .pre .0)) (c .before .before .before .before .before .fill .ensures)
 
 returns-2 : tie.Need-returns-2
 returns-2 c = sheet-bad _ _ _ _ (c .before .before .before .before .before .before .before .before .load-index .ensures .0) (c .before .fault .given .1)
@@ -78,6 +81,7 @@ fill-sheet-spec =
     array-share-prefix-names
     slice-aggregate-fill-2
     slice-aggregate-fill-3
+    slice-aggregate-fill-4
     fill-requires
     enum-known-fault
     same-length
