@@ -7,11 +7,11 @@ use Prim.Native.Nat.{ℕ, zero, suc, _+_, _-_, _*_, _/_, _%_, _^_, _≤_, _<_}
 use native.Mathlib.Omega.{arith}
 use lib.Dec.{leb, eqb}
 use lib.ListN.{length, take}
-use borrow.Author.Tests.{lt-ltb, le-ltb, le-leb, lt-leb, eq-eqb, ne-eqb, leb-true, eqb-false}
+use borrow.Author.Tests.{lt-ltb, le-ltb, le-leb, ne-eqb, leb-true, eqb-false}
 use Rattle.rules.specs.Choice.{pick}
 use Rattle.wire.specs.declared.Number.{Number}
 use Rattle.wire.specs.declared.Number.the-variants.{Value, Cut, Wrong}
-use Rattle.wire.specs.Number.{mostNumber, taken, joined, groupsAt, groupsOf, Bytes}
+use Rattle.wire.specs.Number.{mostNumber, joined, groupsAt, groupsOf, Bytes}
 use Rattle.wire.proofs.PartsLaws.{below-or}
 
 -- ---- the first group: it is the last one, or the number goes on
@@ -37,18 +37,10 @@ unfolding groupsAt
 first-on left b s h = simp (le-ltb b 128 h)
 
 -- ---- a group, before the number that the groups after it hold
-pub joined-zero : (low high n : ℕ) (m : Number) → m ≡ Value high n → high ≡ 0 → Wrong ≡ joined low m
-unfolding joined
-joined-zero low high n m e z = simp (e, eq-eqb high 0 z)
-
 pub joined-value : (low high n : ℕ) (m : Number) → m ≡ Value high n → low < 128 → (high ≡ 0 → ⊥) → high < 2 ^ 25
     → Value (low + 128 * high) (n + 1) ≡ joined low m
 unfolding joined
 joined-value low high n m e l z h = simp (e, ne-eqb high 0 z, le-leb (low + 128 * high) mostNumber (omega arith))
-
-pub joined-large : (low high n : ℕ) (m : Number) → m ≡ Value high n → (high ≡ 0 → ⊥) → 2 ^ 25 ≤ high → Wrong ≡ joined low m
-unfolding joined
-joined-large low high n m e z h = simp (e, ne-eqb high 0 z, lt-leb (low + 128 * high) mostNumber (omega arith))
 
 -- ---- back from a number that was read
 pub cut-is-none : {v n : ℕ} → Cut ≡ Value v n → ⊥
@@ -123,9 +115,3 @@ reads (suc left) v n (b ∷ s) e =
         let x : b ≡ v = cc in
         let y : 1 ≡ n = cc in
         rw (← x, ← y) (read-last left b s l)
-
--- A number takes no more bytes than are left to it.
-pub taken-within : (left : ℕ) (s : List ℕ) (m : Number) → m ≡ groupsAt left s → taken m ≤ left
-taken-within left s (Value v n) e = reads left v n s (sym e) .short
-taken-within left s Cut e = omega arith
-taken-within left s Wrong e = omega arith

@@ -14,12 +14,6 @@ mostNumber = 4294967295
 abbrev pub mostBytes : ℕ
 mostBytes = 5
 
--- How many bytes the number takes.
-abbrev pub taken : Number → ℕ
-taken (Value v n) = n
-taken Cut = 0
-taken Wrong = 0
-
 -- ---- reading
 -- The group of a byte with a set top bit, before the number that the groups after it hold.
 unfoldable pub joined : ℕ → Number → Number

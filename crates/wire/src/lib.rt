@@ -1,8 +1,10 @@
 // One number, read and written: groups of seven bits, low group first; the top bit is set in every byte but the last.
 ghost use mathlib.Core.Path.{_≡_};
-ghost use Prim.Native.Nat.{_+_, _≤_, _<_};
+ghost use Prim.Native.Nat.{_+_, _^_, _≤_, _<_};
 ghost use lib.ListN.{length};
-ghost use Rattle.wire.specs.Number.{mostBytes, taken, joined, groupsAt, numberAt, bytesOf};
+ghost use Rattle.wire.specs.Number.{mostBytes, numberAt, bytesOf};
+ghost use Rattle.wire.specs.Reading.{mostAfter, behind};
+ghost use Rattle.wire.specs.declared.Number.the-variants.{Value};
 ghost use Rattle.wire.specs.Placed.{placed};
 
 // What the bytes hold where a number is to begin.
@@ -15,9 +17,6 @@ pub enum Number {
     Wrong,
 }
 
-// No number goes on with this much after its first seven bits: it would be above 4,294,967,295.
-const TOO_HIGH: u32 = 33554432;
-
 // The byte, as a wider number.
 fn wide(byte: u8) -> u32
     ensures { λ r. ⌜ r ≡ byte ⌝ }
@@ -25,100 +24,53 @@ fn wide(byte: u8) -> u32
     byte as u32
 }
 
-// A group, before the number that the groups after it hold.
-fn join(low: u32, after: Number) -> Number
-    requires { ⌜ (low < 128) × (taken after ≤ mostBytes) ⌝ }
-    ensures { λ r. ⌜ r ≡ joined low after ⌝ }
+// The most that the last byte may be, where `i` stand before it: no number is above 4,294,967,295.
+fn most_after(i: usize) -> u32
+    ensures { λ r. ⌜ r ≡ mostAfter i ⌝ }
 {
-    match after {
-        Number::Value(high, bytes) => {
-            if high == 0 {
-                return Number::Wrong;
-            }
-            if high < TOO_HIGH {
-                return Number::Value(low + 128 * high, bytes + 1);
-            }
-            Number::Wrong
-        }
-        Number::Cut => Number::Cut,
-        Number::Wrong => Number::Wrong,
+    if i == 4 {
+        return 15;
     }
+    127
 }
 
-// A number has at most five bytes, and so there is a function for each that is left to it: nothing is kept in memory on the way, as it is where one calls itself.
-
-// The number whose groups `rest` begins with, where one byte is left to it.
-fn read_fifth(rest: &[u8]) -> Number
-    ensures { λ r. ⌜ r ≡ groupsAt 1 (now (rest .entry)) ⌝ }
+// The number whose last byte this is, where the `i` groups before it hold `value` and the next one counts `unit`.
+fn end(value: u32, unit: u32, i: usize, byte: u32) -> Number
+    requires { ⌜ (i < mostBytes) × (unit ≡ 128 ^ i) × (value < unit) × (byte < 128) ⌝ }
+    ensures { λ r. ⌜ r ≡ behind i value unit (Value byte 1) ⌝ }
 {
-    if rest.len() == 0 {
-        return Number::Cut;
+    if i == 0 {
+        return Number::Value(byte, 1);
     }
-    let first = wide(rest[0]);
-    if first < 128 {
-        return Number::Value(first, 1);
+    if byte == 0 {
+        return Number::Wrong;
     }
-    Number::Wrong
+    if most_after(i) < byte {
+        return Number::Wrong;
+    }
+    Number::Value(value + byte * unit, i + 1)
 }
 
-// Where two bytes are left to it.
-fn read_fourth(rest: &[u8]) -> Number
-    ensures { λ r. ⌜ r ≡ groupsAt 2 (now (rest .entry)) ⌝ }
-{
-    if rest.len() == 0 {
-        return Number::Cut;
-    }
-    let first = wide(rest[0]);
-    if first < 128 {
-        return Number::Value(first, 1);
-    }
-    let after = read_fifth(&rest[1..]);
-    join(first - 128, after)
-}
-
-// Where three bytes are left to it.
-fn read_third(rest: &[u8]) -> Number
-    ensures { λ r. ⌜ r ≡ groupsAt 3 (now (rest .entry)) ⌝ }
-{
-    if rest.len() == 0 {
-        return Number::Cut;
-    }
-    let first = wide(rest[0]);
-    if first < 128 {
-        return Number::Value(first, 1);
-    }
-    let after = read_fourth(&rest[1..]);
-    join(first - 128, after)
-}
-
-// Where four bytes are left to it.
-fn read_second(rest: &[u8]) -> Number
-    ensures { λ r. ⌜ r ≡ groupsAt 4 (now (rest .entry)) ⌝ }
-{
-    if rest.len() == 0 {
-        return Number::Cut;
-    }
-    let first = wide(rest[0]);
-    if first < 128 {
-        return Number::Value(first, 1);
-    }
-    let after = read_third(&rest[1..]);
-    join(first - 128, after)
-}
-
-// The number that `rest` begins with.
+// The number that `rest` begins with, group by group: each counts 128 times as much as the one before it.
 pub fn read(rest: &[u8]) -> Number
     ensures { λ r. ⌜ r ≡ numberAt (now (rest .entry)) ⌝ }
 {
-    if rest.len() == 0 {
-        return Number::Cut;
+    let mut value = 0;
+    let mut unit = 1;
+    let mut i = 0;
+    while i < rest.len() {
+        let byte = wide(rest[i]);
+        if byte < 128 {
+            return end(value, unit, i, byte);
+        }
+        if i == 4 {
+            return Number::Wrong;
+        }
+        value = value + (byte - 128) * unit;
+        unit = unit * 128;
+        i = i + 1;
     }
-    let first = wide(rest[0]);
-    if first < 128 {
-        return Number::Value(first, 1);
-    }
-    let after = read_second(&rest[1..]);
-    join(first - 128, after)
+    Number::Cut
 }
 
 // Writes the number at the start of `out`, and returns how many bytes it takes.

@@ -1,52 +1,73 @@
--- `read`: each answer is a case of `groupsAt`.
+-- `read`: what was gathered so far, and what stands behind it.
+use Prim.Native.Nat.{_-_}
 use native.Mathlib.Omega.{arith}
-use Rattle.wire.proofs.GroupsLaws.{taken-within}
-use Rattle.wire.proofs.ReadingLaws.{groups-cut, groups-last, groups-on}
+use lib.ListN.{length}
+use Rattle.wire.proofs.ReadingLaws.{Gathered, gathered-start, gathered-cut, gathered-end, gathered-over, gathered-on, counts-here, on-fits}
 use borrow.Author.Needs.{needs}
 use Rattle.wire.proofs.read.Statement.{statement}
 use Rattle.wire.proofs.read.Tie as tie
 
-returns : tie.Need-returns
-returns c = groups-cut 5 _ (omega arith) (c .if1 .taken)
+abbrev Inv-loop : tie.InvT-loop
+Inv-loop rest value₀ unit₀ i₀ value unit i = Gathered rest value unit i
 
-shared-slice-read-wide : tie.Need-shared-slice-read-wide
+abbrev μ-loop : tie.MeasureT-loop
+μ-loop rest value₀ unit₀ i₀ value unit i = length rest - i
+
+loop-holds : tie.Need-loop-holds Inv-loop μ-loop
+loop-holds c = gathered-start _
+
+shared-slice-read-wide : tie.Need-shared-slice-read-wide Inv-loop μ-loop
 shared-slice-read-wide c = search needs
 
-wide-requires : tie.Need-wide-requires
+wide-requires : tie.Need-wide-requires Inv-loop μ-loop
 wide-requires c κs = search needs
 
-returns-2 : tie.Need-returns-2
-returns-2 c = groups-last 5 _ _ (omega arith) (c .before .before .before .if1 .left) (c .before .wide .ensures) (c .if2 .taken)
+end-requires : tie.Need-end-requires Inv-loop μ-loop
+end-requires c κs = let g = c .before .before .before .before .loop .inv in (g .few, g .counted, g .small, c .if1 .taken)
 
-sub-read-second : tie.Need-sub-read-second
-sub-read-second c = search needs
+returns : tie.Need-returns Inv-loop μ-loop
+returns c = gathered-end _ _ _ _ (c .before .before .before .before .before .loop .inv) _ (c .before .before .before .before .loop-test .taken) (c .before .before .wide .ensures) (c .before .if1 .taken) _ (c .end .ensures)
 
-part-read-second-start : tie.Need-part-read-second-start
-part-read-second-start c = search needs
+returns-2 : tie.Need-returns-2 Inv-loop μ-loop
+returns-2 c = gathered-over _ _ _ _ (c .before .before .before .before .before .loop .inv) _ (c .before .before .before .before .loop-test .taken) (c .before .before .wide .ensures) (c .before .if1 .left) (c .if2 .taken)
 
-part-read-second-end : tie.Need-part-read-second-end
-part-read-second-end c = search needs
+mul-value : tie.Need-mul-value Inv-loop μ-loop
+mul-value c = let f = on-fits _ _ _ (c .before .before .wide .result - 128) (counts-here _ _ _ _ (c .before .before .before .before .before .loop .inv)) (c .if2 .left) (c .before .before .before .before .before .loop .inv .small) (omega (arith, c .before .before .before .shared-slice-known2 .given (c .before .before .before .before .before .loop .i), c .before .before .wide .ensures, c .before .if1 .left)) in omega (arith, f .0)
 
-read-second-requires : tie.Need-read-second-requires
-read-second-requires c κs = search needs
+add-value : tie.Need-add-value Inv-loop μ-loop
+add-value c = let f = on-fits _ _ _ (c .before .before .wide .result - 128) (counts-here _ _ _ _ (c .before .before .before .before .before .loop .inv)) (c .if2 .left) (c .before .before .before .before .before .loop .inv .small) (omega (arith, c .before .before .before .shared-slice-known2 .given (c .before .before .before .before .before .loop .i), c .before .before .wide .ensures, c .before .if1 .left)) in omega (arith, f .1, f .2)
 
-join-requires : tie.Need-join-requires
-join-requires c κs = (omega (arith, c .before .before .before .before .shared-slice-known2 .given 0, c .before .before .before .wide .ensures, c .before .before .if2 .left), let h = taken-within 4 _ _ (c .read-second .ensures) in omega (arith, h))
+mul-unit : tie.Need-mul-unit Inv-loop μ-loop
+mul-unit c = let f = on-fits _ _ _ (c .before .before .wide .result - 128) (counts-here _ _ _ _ (c .before .before .before .before .before .loop .inv)) (c .if2 .left) (c .before .before .before .before .before .loop .inv .small) (omega (arith, c .before .before .before .shared-slice-known2 .given (c .before .before .before .before .before .loop .i), c .before .before .wide .ensures, c .before .if1 .left)) in omega (arith, f .2)
 
-returns-3 : tie.Need-returns-3
-returns-3 c = groups-on 5 _ _ _ _ (omega arith) (c .before .before .before .before .before .before .if1 .left) (c .before .before .before .before .wide .ensures) (c .before .before .before .if2 .left) (c .before .read-second .ensures) (c .join .ensures)
+add-i : tie.Need-add-i Inv-loop μ-loop
+add-i c = search needs
+
+loop-less : tie.Need-loop-less Inv-loop μ-loop
+loop-less c = search needs
+
+loop-again : tie.Need-loop-again Inv-loop μ-loop
+loop-again c = gathered-on _ _ _ _ (c .before .before .before .before .before .loop .inv) _ (c .before .before .before .before .loop-test .taken) (c .before .before .wide .ensures) (c .before .if1 .left) (omega (arith, c .before .before .before .shared-slice-known2 .given (c .before .before .before .before .before .loop .i), c .before .before .wide .ensures)) (c .if2 .left)
+
+returns-3 : tie.Need-returns-3 Inv-loop μ-loop
+returns-3 c = gathered-cut _ _ _ _ (c .before .loop .inv) (c .loop-test .left)
 
 pub read-spec : {M : Type 1} → statement M
 read-spec =
     tie.close
     (tie.spec
-    returns
+    Inv-loop
+    μ-loop
+    loop-holds
     shared-slice-read-wide
     wide-requires
+    end-requires
+    returns
     returns-2
-    sub-read-second
-    part-read-second-start
-    part-read-second-end
-    read-second-requires
-    join-requires
+    mul-value
+    add-value
+    mul-unit
+    add-i
+    loop-less
+    loop-again
     returns-3)
