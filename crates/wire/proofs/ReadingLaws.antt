@@ -2,7 +2,7 @@
 use mathlib.Core.Path.{_≡_, refl, sym, ap, _∙_}
 use mathlib.Core.Bool.{Bool, true, false}
 use mathlib.Core.List.{List, [], _∷_}
-use Prim.Native.Nat.{ℕ, zero, suc, _+_, _-_, _*_, _^_, _≤_, _<_}
+use Prim.Native.Nat.{ℕ, zero, suc, _+_, _-_, _*_, _%_, _^_, _≤_, _<_}
 use native.Mathlib.Omega.{arith}
 use native.Mathlib.Numerals.{add-one}
 use lib.Dec.{leb, eqb}
@@ -13,7 +13,7 @@ use Rattle.rules.specs.Choice.{pick}
 use Rattle.wire.specs.declared.Number.{Number}
 use Rattle.wire.specs.declared.Number.the-variants.{Value, Cut, Wrong}
 use Rattle.wire.specs.Number.{mostNumber, mostBytes, joined, groupsAt, numberAt}
-use Rattle.wire.specs.Reading.{mostAfter, behind}
+use Rattle.wire.specs.Reading.{ended, behind}
 use Rattle.wire.proofs.GroupsLaws.{first-last, first-on}
 
 -- ---- what a group counts
@@ -34,47 +34,42 @@ counts (suc (suc (suc (suc zero)))) unit h e = rw e fifth
 counts (suc (suc (suc (suc (suc i))))) unit h e = absurd (omega arith)
 
 -- ---- the last byte
-pub most-fifth : (i : ℕ) → i ≡ 4 → 15 ≡ mostAfter i
-most-fifth i e = simp (eq-eqb i 4 e)
+module _ (value i b : ℕ) where
+  pub ended-first : i ≡ 0 → Value value 1 ≡ ended value i b
+  unfolding ended
+  ended-first e = simp (eq-eqb i 0 e)
 
-pub most-earlier : (i : ℕ) → (i ≡ 4 → ⊥) → 127 ≡ mostAfter i
-most-earlier i o = simp (ne-eqb i 4 o)
+  pub ended-zero : (i ≡ 0 → ⊥) → b ≡ 0 → Wrong ≡ ended value i b
+  unfolding ended
+  ended-zero o z = simp (ne-eqb i 0 o, eq-eqb b 0 z)
 
-module _ (value b : ℕ) where
-  pub end-first : (i unit : ℕ) → i ≡ 0 → Value b 1 ≡ behind i value unit (Value b 1)
-  unfolding behind
-  end-first i unit e = rw e
+  module _ (o : i ≡ 0 → ⊥) (some : b ≡ 0 → ⊥) where
+    pub ended-large : mostNumber < value → Wrong ≡ ended value i b
+    unfolding ended
+    ended-large h = simp (ne-eqb i 0 o, ne-eqb b 0 some, lt-leb value mostNumber h)
 
-  pub end-zero : (i unit : ℕ) → (i ≡ 0 → ⊥) → b ≡ 0 → Wrong ≡ behind i value unit (Value b 1)
-  unfolding behind
-  end-zero zero unit o z = absurd (o refl)
-  end-zero (suc i) unit o z = simp (eq-eqb b 0 z)
+    pub ended-value : value ≤ mostNumber → Value value (i + 1) ≡ ended value i b
+    unfolding ended
+    ended-value h = simp (ne-eqb i 0 o, ne-eqb b 0 some, le-leb value mostNumber h)
 
-  pub end-large : (i unit : ℕ) → Counts i unit → (i ≡ 0 → ⊥) → (b ≡ 0 → ⊥) → mostAfter i < b → b < 128 → Wrong ≡ behind i value unit (Value b 1)
-  unfolding behind
-  end-large _ _ first o some m h = absurd (o refl)
-  end-large _ _ second o some m h = absurd (omega arith)
-  end-large _ _ third o some m h = absurd (omega arith)
-  end-large _ _ fourth o some m h = absurd (omega arith)
-  end-large _ _ fifth o some m h = simp (ne-eqb b 0 some, lt-leb (value + 268435456 * b) mostNumber (omega arith))
-
-  pub end-fits : (i unit : ℕ) → Counts i unit → b ≤ mostAfter i → value < unit → (b * unit < 2 ^ 32) × (value + b * unit < 2 ^ 32)
-  end-fits _ _ first m h = (omega arith, omega arith)
-  end-fits _ _ second m h = (omega arith, omega arith)
-  end-fits _ _ third m h = (omega arith, omega arith)
-  end-fits _ _ fourth m h = (omega arith, omega arith)
-  end-fits _ _ fifth m h = (omega arith, omega arith)
-
-  turned : (u n : ℕ) (r : Number) → value + b * u ≡ value + u * b → Value (value + u * b) n ≡ r → Value (value + b * u) n ≡ r
-  turned u n r e q = ap (λ (v : ℕ). Value v n) e ∙ q
-
-  pub end-value : (i unit : ℕ) → Counts i unit → (i ≡ 0 → ⊥) → (b ≡ 0 → ⊥) → b ≤ mostAfter i → value < unit → Value (value + b * unit) (i + 1) ≡ behind i value unit (Value b 1)
-  unfolding behind
-  end-value _ _ first o some m h = absurd (o refl)
-  end-value _ _ second o some m h = turned 128 2 _ (omega arith) (simp (ne-eqb b 0 some, le-leb (value + 128 * b) mostNumber (omega arith)))
-  end-value _ _ third o some m h = turned 16384 3 _ (omega arith) (simp (ne-eqb b 0 some, le-leb (value + 16384 * b) mostNumber (omega arith)))
-  end-value _ _ fourth o some m h = turned 2097152 4 _ (omega arith) (simp (ne-eqb b 0 some, le-leb (value + 2097152 * b) mostNumber (omega arith)))
-  end-value _ _ fifth o some m h = turned 268435456 5 _ (omega arith) (simp (ne-eqb b 0 some, le-leb (value + 268435456 * b) mostNumber (omega arith)))
+-- It is the number of which the last byte stands behind the others.
+pub ended-behind : (i value unit b : ℕ) → Counts i unit → value < unit → ended (value + b * unit) i b ≡ behind i value unit (Value b 1)
+unfolding ended behind
+ended-behind _ value _ b first h =
+    let e : value + b * 1 ≡ b = omega arith in
+    rw e
+ended-behind _ value _ b second h =
+    let e : value + b * 128 ≡ value + 128 * b = omega arith in
+    rw e
+ended-behind _ value _ b third h =
+    let e : value + b * 16384 ≡ value + 16384 * b = omega arith in
+    rw e
+ended-behind _ value _ b fourth h =
+    let e : value + b * 2097152 ≡ value + 2097152 * b = omega arith in
+    rw e
+ended-behind _ value _ b fifth h =
+    let e : value + b * 268435456 ≡ value + 268435456 * b = omega arith in
+    rw e
 
 -- ---- one group more
 -- `v` is what the group and those after it hold, `w` what all hold.
@@ -112,13 +107,20 @@ behind-on _ value _ low (Value high n) fourth h s = later 2 value 2097152 low hi
 behind-on _ value _ low (Value high n) fifth h s = absurd (omega arith)
 
 -- A group more still fits.
-pub on-fits : (i value unit low : ℕ) → Counts i unit → (i ≡ 4 → ⊥) → value < unit → low < 128
-    → (low * unit < 2 ^ 32) × (value + low * unit < unit * 128) × (unit * 128 < 2 ^ 32) × (unit * 128 ≡ 128 ^ (i + 1)) × (i < 4)
-on-fits _ value _ low first o h l = (omega arith, omega arith, omega arith, refl, omega arith)
-on-fits _ value _ low second o h l = (omega arith, omega arith, omega arith, refl, omega arith)
-on-fits _ value _ low third o h l = (omega arith, omega arith, omega arith, refl, omega arith)
-on-fits _ value _ low fourth o h l = (omega arith, omega arith, omega arith, refl, omega arith)
-on-fits _ value _ low fifth o h l = absurd (o refl)
+pub low-fits : (i value unit low : ℕ) → Counts i unit → value < unit → low < 128
+    → (low * unit < 2 ^ 35) × (value + low * unit < unit * 128) × (unit * 128 < 2 ^ 36) × (i ≡ 0 → value + low * unit < 128)
+low-fits _ value _ low first h l = (omega arith, omega arith, omega arith, λ _. omega arith)
+low-fits _ value _ low second h l = (omega arith, omega arith, omega arith, λ e. absurd (omega arith))
+low-fits _ value _ low third h l = (omega arith, omega arith, omega arith, λ e. absurd (omega arith))
+low-fits _ value _ low fourth h l = (omega arith, omega arith, omega arith, λ e. absurd (omega arith))
+low-fits _ value _ low fifth h l = (omega arith, omega arith, omega arith, λ e. absurd (omega arith))
+
+next-counts : (i unit : ℕ) → Counts i unit → (i ≡ 4 → ⊥) → (unit * 128 ≡ 128 ^ (i + 1)) × (i < 4)
+next-counts _ _ first o = (refl, omega arith)
+next-counts _ _ second o = (refl, omega arith)
+next-counts _ _ third o = (refl, omega arith)
+next-counts _ _ fourth o = (refl, omega arith)
+next-counts _ _ fifth o = absurd (o refl)
 
 -- ---- so far
 -- The first `i` bytes have their top bit set; they hold `value`, and the number is what stands behind them with it.
@@ -153,8 +155,10 @@ module _ (s : List ℕ) (value unit i : ℕ) (g : Gathered s value unit i) where
     bytes : drop i s ≡ b ∷ drop (i + 1) s
     bytes = rw (e, add-one) (drop-cons s i 0 h)
 
-    pub gathered-end : b < 128 → (r : Number) → r ≡ behind i value unit (Value b 1) → r ≡ numberAt s
-    gathered-end l r q = q ∙ sym (g .is ∙ ap (behind i value unit) (rw (left, bytes) (first-last (mostBytes - (i + 1)) b (drop (i + 1) s) l)))
+    pub gathered-end : b < 128 → (r : Number) → r ≡ ended (value + b % 128 * unit) i b → r ≡ numberAt s
+    gathered-end l r q =
+        let m : b % 128 ≡ b = omega arith in
+        (rw m at q) ∙ ended-behind i value unit b counts-here (g .small) ∙ sym (g .is ∙ ap (behind i value unit) (rw (left, bytes) (first-last (mostBytes - (i + 1)) b (drop (i + 1) s) l)))
 
     on : 128 ≤ b → numberAt s ≡ behind i value unit (joined (b - 128) (groupsAt (mostBytes - (i + 1)) (drop (i + 1) s)))
     on l = g .is ∙ ap (behind i value unit) (rw (left, bytes) (first-on (mostBytes - (i + 1)) b (drop (i + 1) s) l))
@@ -163,7 +167,9 @@ module _ (s : List ℕ) (value unit i : ℕ) (g : Gathered s value unit i) where
     unfolding behind joined groupsAt
     gathered-over l q = sym (on l ∙ rw q)
 
-    pub gathered-on : 128 ≤ b → b < 256 → (i ≡ 4 → ⊥) → Gathered s (value + (b - 128) * unit) (unit * 128) (i + 1)
+    pub gathered-on : 128 ≤ b → b < 256 → (i ≡ 4 → ⊥) → Gathered s (value + b % 128 * unit) (unit * 128) (i + 1)
     gathered-on l m o =
-        let f = on-fits i value unit (b - 128) counts-here o (g .small) (omega arith) in
-        record { few = omega (arith, f .4); counted = f .3; small = f .1; there = omega arith; is = on l ∙ behind-on i value unit (b - 128) _ counts-here (f .4) (g .small) }
+        let e : b % 128 ≡ b - 128 = omega arith in
+        let f = low-fits i value unit (b - 128) counts-here (g .small) (omega arith) in
+        let n = next-counts i unit counts-here o in
+        rw e (record { few = omega (arith, n .1); counted = n .0; small = f .1; there = omega arith; is = on l ∙ behind-on i value unit (b - 128) _ counts-here (n .1) (g .small) })

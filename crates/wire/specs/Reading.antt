@@ -6,9 +6,9 @@ use Rattle.wire.specs.Number.{mostNumber}
 use Rattle.wire.specs.declared.Number.{Number}
 use Rattle.wire.specs.declared.Number.the-variants.{Value, Cut, Wrong}
 
--- The most that the last byte may be behind `i` others.
-abbrev pub mostAfter : ℕ → ℕ
-mostAfter i = pick (eqb i 4) 15 127
+-- The number that is `value` in all, with so many bytes before its last.
+unfoldable pub ended : ℕ → ℕ → ℕ → Number
+ended value i last = pick (eqb i 0) (Value value 1) (pick (eqb last 0) Wrong (pick (leb value mostNumber) (Value value (i + 1)) Wrong))
 
 -- `i` groups that hold `value`, before the number that the groups after them hold, which counts `unit`.
 unfoldable pub behind : ℕ → ℕ → ℕ → Number → Number

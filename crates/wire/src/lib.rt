@@ -1,10 +1,9 @@
 // One number, read and written: groups of seven bits, low group first; the top bit is set in every byte but the last.
 ghost use mathlib.Core.Path.{_≡_};
-ghost use Prim.Native.Nat.{_+_, _^_, _≤_, _<_};
+ghost use Prim.Native.Nat.{_+_, _≤_, _<_};
 ghost use lib.ListN.{length};
 ghost use Rattle.wire.specs.Number.{mostBytes, numberAt, bytesOf};
-ghost use Rattle.wire.specs.Reading.{mostAfter, behind};
-ghost use Rattle.wire.specs.declared.Number.the-variants.{Value};
+ghost use Rattle.wire.specs.Reading.{ended};
 ghost use Rattle.wire.specs.Placed.{placed};
 
 // What the bytes hold where a number is to begin.
@@ -17,38 +16,30 @@ pub enum Number {
     Wrong,
 }
 
+const MOST_NUMBER: u64 = 4294967295;
+
 // The byte, as a wider number.
-fn wide(byte: u8) -> u32
+fn wide(byte: u8) -> u64
     ensures { λ r. ⌜ r ≡ byte ⌝ }
 {
-    byte as u32
+    byte as u64
 }
 
-// The most that the last byte may be, where `i` stand before it: no number is above 4,294,967,295.
-fn most_after(i: usize) -> u32
-    ensures { λ r. ⌜ r ≡ mostAfter i ⌝ }
-{
-    if i == 4 {
-        return 15;
-    }
-    127
-}
-
-// The number whose last byte this is, where the `i` groups before it hold `value` and the next one counts `unit`.
-fn end(value: u32, unit: u32, i: usize, byte: u32) -> Number
-    requires { ⌜ (i < mostBytes) × (unit ≡ 128 ^ i) × (value < unit) × (byte < 128) ⌝ }
-    ensures { λ r. ⌜ r ≡ behind i value unit (Value byte 1) ⌝ }
+// The number that is `value` in all and whose last byte this is, where `i` bytes stand before it.
+fn end(value: u64, i: usize, byte: u64) -> Number
+    requires { ⌜ (i < mostBytes) × (i ≡ 0 → value < 128) ⌝ }
+    ensures { λ r. ⌜ r ≡ ended value i byte ⌝ }
 {
     if i == 0 {
-        return Number::Value(byte, 1);
+        return Number::Value(value as u32, 1);
     }
     if byte == 0 {
         return Number::Wrong;
     }
-    if most_after(i) < byte {
+    if MOST_NUMBER < value {
         return Number::Wrong;
     }
-    Number::Value(value + byte * unit, i + 1)
+    Number::Value(value as u32, i + 1)
 }
 
 // The number that `rest` begins with, group by group: each counts 128 times as much as the one before it.
@@ -60,13 +51,13 @@ pub fn read(rest: &[u8]) -> Number
     let mut i = 0;
     while i < rest.len() {
         let byte = wide(rest[i]);
+        value = value + byte % 128 * unit;
         if byte < 128 {
-            return end(value, unit, i, byte);
+            return end(value, i, byte);
         }
         if i == 4 {
             return Number::Wrong;
         }
-        value = value + (byte - 128) * unit;
         unit = unit * 128;
         i = i + 1;
     }

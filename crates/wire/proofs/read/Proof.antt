@@ -1,8 +1,8 @@
 -- `read`: what was gathered so far, and what stands behind it.
-use Prim.Native.Nat.{_-_}
+use Prim.Native.Nat.{_-_, _%_}
 use native.Mathlib.Omega.{arith}
 use lib.ListN.{length}
-use Rattle.wire.proofs.ReadingLaws.{Gathered, gathered-start, gathered-cut, gathered-end, gathered-over, gathered-on, counts-here, on-fits}
+use Rattle.wire.proofs.ReadingLaws.{Gathered, gathered-start, gathered-cut, gathered-end, gathered-over, gathered-on, counts-here, low-fits}
 use borrow.Author.Needs.{needs}
 use Rattle.wire.proofs.read.Statement.{statement}
 use Rattle.wire.proofs.read.Tie as tie
@@ -22,8 +22,14 @@ shared-slice-read-wide c = search needs
 wide-requires : tie.Need-wide-requires Inv-loop μ-loop
 wide-requires c κs = search needs
 
+mul-value : tie.Need-mul-value Inv-loop μ-loop
+mul-value c = let f = low-fits _ _ _ (c .wide .result % 128) (counts-here _ _ _ _ (c .before .before .before .loop .inv)) (c .before .before .before .loop .inv .small) (omega arith) in omega (arith, f .0)
+
+add-value : tie.Need-add-value Inv-loop μ-loop
+add-value c = let f = low-fits _ _ _ (c .wide .result % 128) (counts-here _ _ _ _ (c .before .before .before .loop .inv)) (c .before .before .before .loop .inv .small) (omega arith) in omega (arith, f .1, f .2)
+
 end-requires : tie.Need-end-requires Inv-loop μ-loop
-end-requires c κs = let g = c .before .before .before .before .loop .inv in (g .few, g .counted, g .small, c .if1 .taken)
+end-requires c κs = let f = low-fits _ _ _ (c .before .wide .result % 128) (counts-here _ _ _ _ (c .before .before .before .before .loop .inv)) (c .before .before .before .before .loop .inv .small) (omega arith) in (c .before .before .before .before .loop .inv .few, f .3)
 
 returns : tie.Need-returns Inv-loop μ-loop
 returns c = gathered-end _ _ _ _ (c .before .before .before .before .before .loop .inv) _ (c .before .before .before .before .loop-test .taken) (c .before .before .wide .ensures) (c .before .if1 .taken) _ (c .end .ensures)
@@ -31,14 +37,8 @@ returns c = gathered-end _ _ _ _ (c .before .before .before .before .before .loo
 returns-2 : tie.Need-returns-2 Inv-loop μ-loop
 returns-2 c = gathered-over _ _ _ _ (c .before .before .before .before .before .loop .inv) _ (c .before .before .before .before .loop-test .taken) (c .before .before .wide .ensures) (c .before .if1 .left) (c .if2 .taken)
 
-mul-value : tie.Need-mul-value Inv-loop μ-loop
-mul-value c = let f = on-fits _ _ _ (c .before .before .wide .result - 128) (counts-here _ _ _ _ (c .before .before .before .before .before .loop .inv)) (c .if2 .left) (c .before .before .before .before .before .loop .inv .small) (omega (arith, c .before .before .before .shared-slice-known2 .given (c .before .before .before .before .before .loop .i), c .before .before .wide .ensures, c .before .if1 .left)) in omega (arith, f .0)
-
-add-value : tie.Need-add-value Inv-loop μ-loop
-add-value c = let f = on-fits _ _ _ (c .before .before .wide .result - 128) (counts-here _ _ _ _ (c .before .before .before .before .before .loop .inv)) (c .if2 .left) (c .before .before .before .before .before .loop .inv .small) (omega (arith, c .before .before .before .shared-slice-known2 .given (c .before .before .before .before .before .loop .i), c .before .before .wide .ensures, c .before .if1 .left)) in omega (arith, f .1, f .2)
-
 mul-unit : tie.Need-mul-unit Inv-loop μ-loop
-mul-unit c = let f = on-fits _ _ _ (c .before .before .wide .result - 128) (counts-here _ _ _ _ (c .before .before .before .before .before .loop .inv)) (c .if2 .left) (c .before .before .before .before .before .loop .inv .small) (omega (arith, c .before .before .before .shared-slice-known2 .given (c .before .before .before .before .before .loop .i), c .before .before .wide .ensures, c .before .if1 .left)) in omega (arith, f .2)
+mul-unit c = let f = low-fits _ _ _ (c .before .before .wide .result % 128) (counts-here _ _ _ _ (c .before .before .before .before .before .loop .inv)) (c .before .before .before .before .before .loop .inv .small) (omega arith) in omega (arith, f .2)
 
 add-i : tie.Need-add-i Inv-loop μ-loop
 add-i c = search needs
@@ -61,11 +61,11 @@ read-spec =
     loop-holds
     shared-slice-read-wide
     wide-requires
+    mul-value
+    add-value
     end-requires
     returns
     returns-2
-    mul-value
-    add-value
     mul-unit
     add-i
     loop-less
