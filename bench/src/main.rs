@@ -3,6 +3,7 @@
 
 mod kernel;
 mod lent;
+mod numbers;
 mod rows;
 mod same;
 mod show;
@@ -12,7 +13,7 @@ use std::hint::black_box;
 
 use rows::Row;
 use same::Made;
-use timing::{race, Times};
+use timing::{alone, race, Times};
 
 /// All rows are gone through so many times, and the best times kept: what else
 /// the machine does may last longer than one measurement.
@@ -26,6 +27,8 @@ pub struct Measured {
     pub translation: Times,
     pub key_decision: Times,
     pub reading: Times,
+    /// Of the numbers alone, in nanoseconds.
+    pub numbers: f64,
 }
 
 impl Measured {
@@ -36,6 +39,7 @@ impl Measured {
             translation: self.translation.best(other.translation),
             key_decision: self.key_decision.best(other.key_decision),
             reading: self.reading.best(other.reading),
+            numbers: self.numbers.min(other.numbers),
         }
     }
 }
@@ -60,6 +64,7 @@ fn measure(row: &Row, made: &Made) -> Measured {
         translation: translation(row),
         key_decision: key_decision(row, made),
         reading: reading(row),
+        numbers: numbers(row),
     }
 }
 
@@ -144,4 +149,10 @@ fn reading(row: &Row) -> Times {
             black_box(reference::read_table(black_box(&row.table))).ok();
         },
     )
+}
+
+fn numbers(row: &Row) -> f64 {
+    alone(|| {
+        black_box(numbers::sum(black_box(&row.table))).expect("a good table is numbers alone");
+    })
 }

@@ -9,10 +9,10 @@ const AIM: f64 = 2.0;
 
 /// Prints the table: a line for each row.
 pub fn table(rows: &[Row], measured: &[Measured]) {
-    println!("Kernel / reference, in microseconds; reading: in megabytes a second. ×: how many times faster the kernel is.");
+    println!("Kernel / reference, in microseconds; reading and numbers alone: in megabytes a second. ×: how many times faster the kernel is.");
     println!();
-    println!("| table | bytes | decision | checker | translation | key decision | reading |");
-    println!("|---|---|---|---|---|---|---|");
+    println!("| table | bytes | decision | checker | translation | key decision | reading | numbers alone |");
+    println!("|---|---|---|---|---|---|---|---|");
     for (row, measured) in rows.iter().zip(measured) {
         line(row, measured);
     }
@@ -20,7 +20,7 @@ pub fn table(rows: &[Row], measured: &[Measured]) {
 
 fn line(row: &Row, measured: &Measured) {
     println!(
-        "| {} | {} | {} | {} | {} | {} | {} |",
+        "| {} | {} | {} | {} | {} | {} | {} | {} |",
         row.name,
         row.table.len(),
         times(measured.decision),
@@ -28,6 +28,7 @@ fn line(row: &Row, measured: &Measured) {
         times(measured.translation),
         times(measured.key_decision),
         speeds(measured.reading, row.table.len()),
+        speed(measured.numbers, row.table.len()),
     );
 }
 
@@ -37,11 +38,15 @@ fn times(times: Times) -> String {
     format!("{kernel} / {reference}, {}", ratio(times))
 }
 
-/// Bytes in a nanosecond are thousands of megabytes in a second.
 fn speeds(times: Times, bytes: usize) -> String {
-    let kernel = figures(1_000.0 * bytes as f64 / times.kernel);
-    let reference = figures(1_000.0 * bytes as f64 / times.reference);
+    let kernel = speed(times.kernel, bytes);
+    let reference = speed(times.reference, bytes);
     format!("{kernel} / {reference}, {}", ratio(times))
+}
+
+/// Bytes in a nanosecond are thousands of megabytes in a second.
+fn speed(nanoseconds: f64, bytes: usize) -> String {
+    figures(1_000.0 * bytes as f64 / nanoseconds)
 }
 
 /// How many times faster; in bold where that is short of the aim.

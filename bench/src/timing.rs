@@ -44,6 +44,13 @@ pub fn race(mut kernel: impl FnMut(), mut reference: impl FnMut()) -> Times {
     best
 }
 
+/// Times a call that nothing is held against, in nanoseconds.
+pub fn alone(mut call: impl FnMut()) -> f64 {
+    let calls = calls_in_batch(&mut call);
+    let batches = (0..BATCHES).map(|_| time_of_call(&mut call, calls));
+    batches.fold(f64::INFINITY, f64::min)
+}
+
 /// So many calls take as long as a batch is to take.
 fn calls_in_batch(call: &mut impl FnMut()) -> u32 {
     let mut calls = 1;
