@@ -4,5 +4,6 @@ pub mod PlacedLaws
 mod GroupsLaws
 pub mod NumberLaws
 mod ReadingLaws
+pub mod GlancingLaws
 mod WritingLaws
 mod Examples

@@ -6,6 +6,8 @@ ghost use Rattle.wire.specs.Number.{mostBytes, numberAt, bytesOf};
 ghost use Rattle.wire.specs.Reading.{ended};
 ghost use Rattle.wire.specs.Placed.{placed};
 
+pub mod glancing;
+
 // What the bytes hold where a number is to begin.
 pub enum Number {
     // The number, and the bytes it takes.
