@@ -21,3 +21,4 @@ pub mod RecordsForm
 pub mod KeyRecordsForm
 pub mod RequestsForm
 pub mod DerivationForm
+pub mod PassingLaws

@@ -2,15 +2,15 @@
 use mathlib.Core.Path.{_≡_, refl, sym, _∙_, ap, subst}
 use mathlib.Core.Bool.{Bool, true, false, _||_, true≢false}
 use mathlib.Core.List.{List, [], _∷_}
-use Prim.Native.Nat.{ℕ, zero, suc, _+_, _-_, _<_, _≤_}
+use Prim.Native.Nat.{ℕ, zero, suc, _+_, _*_, _-_, _/_, _%_, _<_, _≤_}
 use native.Mathlib.Omega.{arith}
 use native.Mathlib.Decide.{ℕ-discrete}
 use lib.Dec.{eqb, ltb}
-use lib.ListN.{length, getD, take, drop, length-take, length-drop}
-use lib.Seq.{drop-cons, getD-take, getD-drop}
+use lib.ListN.{length, getD, set, take, drop, length-take, length-drop, length-set}
+use lib.Seq.{drop-cons, length-take-le, getD-take, getD-drop, getD-set-same, getD-set-other}
 use borrow.Author.Tests.{eq-eqb, ne-eqb, ltb-true, ltb-false}
 use Rattle.rules.specs.Choice.{pick}
-use Rattle.records.specs.Rows.{isAmong, Passed, First}
+use Rattle.records.specs.Rows.{isAmong, Passed, First, marks, markOf, Marked}
 
 -- ---- passing numbers that are others
 pub passed-start : (l : List ℕ) (n : ℕ) → Passed l n 0
@@ -90,3 +90,42 @@ module _ (l : List ℕ) (n : ℕ) where
             let b : i ≤ j = ltb-false j i w in
             let s : i + (j - i) ≡ j = omega arith in
             true≢false (sym (among-here (take 8 (drop i l)) n (j - i) (omega (arith, length-take 8 (drop i l), length-drop i l)) (getD-take 8 (drop i l) (j - i) 0 (omega arith) ∙ getD-drop i l (j - i) 0 ∙ ap (λ (k : ℕ). getD l k 0) s ∙ q)) ∙ e)
+
+-- ---- marks
+-- As code computes the place of a mark.
+pub mark-place : (n : ℕ) → ((n % 65536 + n / 65536 * 8) % 512 ≡ markOf n) × ((n % 65536 + n / 65536 * 8) % 512 < 512)
+unfolding markOf
+mark-place n = (refl, omega arith)
+
+-- It is in the row.
+mark-fits : (n : ℕ) → markOf n < marks
+mark-fits n = subst (λ (k : ℕ). k < marks) (mark-place n .0) (mark-place n .1)
+
+-- A number whose mark is 0 is not among those that are marked.
+pub unmarked : (m l : List ℕ) (n k : ℕ) → Marked m l → k ≡ markOf n → getD m k 0 ≡ 0 → false ≡ isAmong l n
+unmarked m l n k a e z = sym (among-nowhere l n (λ i h q.
+    let g : 0 < getD m k 0 = subst (λ (j : ℕ). 0 < getD m j 0) (ap markOf q ∙ sym e) (a .marked i h) in
+    absurd (omega (arith, g, z))))
+
+-- In an empty row there is nothing to mark.
+pub marked-start : (m l : List ℕ) → marks ≤ length m → Marked m (take 0 l)
+marked-start m l h = record { room = h; marked = λ i g. absurd (omega arith) }
+
+-- With one more number, which is marked, all are marked.
+pub marked-on : (m l : List ℕ) (i n : ℕ) → i < length l → Marked m (take i l) → Marked (set m (markOf n) 1) (take (i + 1) (set l i n))
+marked-on m l i n h a = record { room = omega (arith, length-set m (markOf n) 1, a .room); marked = λ j g. go j (omega (arith, g, length-take (i + 1) (set l i n))) (ℕ-discrete j i) }
+  where
+    -- What is marked stays so.
+    stays : (k : ℕ) → 0 < getD m k 0 → 0 < getD (set m (markOf n) 1) k 0
+    stays k g = still (ℕ-discrete k (markOf n))
+      where
+        still : Dec (k ≡ markOf n) → 0 < getD (set m (markOf n) 1) k 0
+        still (yes e) = rw (e, getD-set-same m (markOf n) 1 0 (omega (arith, mark-fits n, a .room))) (omega arith)
+        still (no o) = rw (getD-set-other m (markOf n) k 1 0 o) g
+
+    go : (j : ℕ) → j < i + 1 → Dec (j ≡ i) → 0 < getD (set m (markOf n) 1) (markOf (getD (take (i + 1) (set l i n)) j 0)) 0
+    go j g (yes e) =
+        rw (getD-take (i + 1) (set l i n) j 0 g, e, getD-set-same l i n 0 h, getD-set-same m (markOf n) 1 0 (omega (arith, mark-fits n, a .room))) (omega arith)
+    go j g (no o) =
+        rw (getD-take (i + 1) (set l i n) j 0 g, getD-set-other l i j n 0 o)
+        (stays (markOf (getD l j 0)) (subst (λ (x : ℕ). 0 < getD m (markOf x) 0) (getD-take i l j 0 (omega arith)) (a .marked j (omega (arith, length-take-le i l (omega arith))))))

@@ -11,3 +11,4 @@ pub mod KeyRecords
 pub mod Requests
 pub mod DerivationBytes
 pub mod Numbers
+pub mod Passing

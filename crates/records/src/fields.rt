@@ -1,5 +1,7 @@
 // The fields of records: each a number in its range.
 ghost use mathlib.Core.Path.{_≡_};
+ghost use Rattle.rules.specs.Ranges.{mostKey, mostObject, mostRight, mostBase, mostNames};
+ghost use Rattle.records.specs.Passing.{PassesField};
 ghost use Rattle.records.specs.Fields.{anyNumber, field, spaceField, keyField, depthField, useFields, fieldRead, spaceRead, keyRead, depthRead, useRead, fieldFault, spaceFault, keyFault, depthFault, useFault};
 use crate::faults::Fault;
 use crate::faults::Kind;
@@ -10,6 +12,9 @@ use rules::Key;
 use rules::Made;
 use rules::Space;
 use wire::Number;
+use wire::glancing::Glance;
+use wire::glancing::glance_at;
+use wire::glancing::nothing;
 
 pub const MOST_KEY: u32 = 4294967295;
 
@@ -18,6 +23,8 @@ pub const MOST_BASE: u32 = 65535;
 pub const MOST_OBJECT: u32 = 65535;
 
 pub const MOST_RIGHT: u32 = 32;
+
+pub const MOST_NAMES: u32 = 4;
 
 // A number, with the place after it.
 pub enum Field {
@@ -82,6 +89,85 @@ pub fn read_field(s: &[u8], at: usize, low: u32, high: u32) -> Field
     Field::Value(value, next)
 }
 
+// An object, seen at a glance.
+pub fn glance_object(s: &[u8], at: usize) -> Glance
+    ensures { λ r. ⌜ PassesField (field 0 mostObject) (now (s .entry)) at r ⌝ }
+{
+    glance_at(s, at, 0, 2, 3)
+}
+
+// A base name, seen at a glance.
+pub fn glance_base(s: &[u8], at: usize) -> Glance
+    ensures { λ r. ⌜ PassesField (field 1 mostBase) (now (s .entry)) at r ⌝ }
+{
+    let name = glance_at(s, at, 0, 2, 3);
+    if name.value == 0 {
+        return nothing();
+    }
+    name
+}
+
+// A right, seen at a glance.
+pub fn glance_right(s: &[u8], at: usize) -> Glance
+    ensures { λ r. ⌜ PassesField (field 1 mostRight) (now (s .entry)) at r ⌝ }
+{
+    glance_at(s, at, 1, 0, 32)
+}
+
+// A key, seen at a glance.
+pub fn glance_key(s: &[u8], at: usize) -> Glance
+    ensures { λ r. ⌜ PassesField (field 1 mostKey) (now (s .entry)) at r ⌝ }
+{
+    glance_at(s, at, 1, 4, 15)
+}
+
+// The length of a path, seen at a glance.
+pub fn glance_length(s: &[u8], at: usize) -> Glance
+    ensures { λ r. ⌜ PassesField (field 0 mostNames) (now (s .entry)) at r ⌝ }
+{
+    glance_at(s, at, 0, 0, 4)
+}
+
+// The field at the place `at`, of which a glance may have told all.
+fn read_seen(seen: Glance, s: &[u8], at: usize, low: u32, high: u32) -> Field
+    requires { ⌜ PassesField (field low high) (now s) at seen ⌝ }
+    ensures { λ r. ⌜ r ≡ fieldRead (field low high (now (s .entry)) at) ⌝ }
+{
+    let next = seen.next;
+    if next == 0 {
+        return read_field(s, at, low, high);
+    }
+    Field::Value(seen.value, next)
+}
+
+// An object.
+fn read_object(s: &[u8], at: usize) -> Field
+    ensures { λ r. ⌜ r ≡ fieldRead (field 0 mostObject (now (s .entry)) at) ⌝ }
+{
+    read_seen(glance_object(s, at), s, at, 0, MOST_OBJECT)
+}
+
+// A right.
+fn read_right(s: &[u8], at: usize) -> Field
+    ensures { λ r. ⌜ r ≡ fieldRead (field 1 mostRight (now (s .entry)) at) ⌝ }
+{
+    read_seen(glance_right(s, at), s, at, 1, MOST_RIGHT)
+}
+
+// A base name.
+pub fn read_base(s: &[u8], at: usize) -> Field
+    ensures { λ r. ⌜ r ≡ fieldRead (field 1 mostBase (now (s .entry)) at) ⌝ }
+{
+    read_seen(glance_base(s, at), s, at, 1, MOST_BASE)
+}
+
+// The length of a path.
+pub fn read_length(s: &[u8], at: usize) -> Field
+    ensures { λ r. ⌜ r ≡ fieldRead (field 0 mostNames (now (s .entry)) at) ⌝ }
+{
+    read_seen(glance_length(s, at), s, at, 0, MOST_NAMES)
+}
+
 // The fault of a field that has one.
 pub fn field_fault(number: Field) -> Fault
     ensures { λ r. ⌜ r ≡ fieldFault number ⌝ }
@@ -135,11 +221,11 @@ pub fn read_depth(s: &[u8], at: usize) -> DepthRead
 pub fn read_use(s: &[u8], at: usize) -> UseRead
     ensures { λ r. ⌜ r ≡ useRead (useFields (now (s .entry)) at) ⌝ }
 {
-    let first = read_field(s, at, 0, MOST_OBJECT);
+    let first = read_object(s, at);
     let Field::Value(object, middle) = first else {
         return UseRead::Fault(field_fault(first));
     };
-    let second = read_field(s, middle, 1, MOST_RIGHT);
+    let second = read_right(s, middle);
     let Field::Value(right, next) = second else {
         return UseRead::Fault(field_fault(second));
     };

@@ -6,6 +6,7 @@ pub mod derivations;
 pub mod faults;
 pub mod fields;
 pub mod keys;
+pub mod passing;
 pub mod paths;
 pub mod reader;
 pub mod requests;

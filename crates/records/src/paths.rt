@@ -6,11 +6,9 @@ use crate::faults::Fault;
 use crate::faults::Kind;
 use crate::faults::fault_at;
 use crate::fields::Field;
-use crate::fields::MOST_BASE;
 use crate::fields::field_fault;
-use crate::fields::read_field;
-
-pub const MOST_NAMES: u32 = 4;
+use crate::fields::read_base;
+use crate::fields::read_length;
 
 // The base names; those from `length` on are 0.
 pub struct Path {
@@ -47,28 +45,28 @@ fn read_names(s: &[u8], at: usize, count: u32) -> PathRead
     if count == 0 {
         return PathRead::Path(path_of(0, 0, 0, 0, 0), at);
     }
-    let one = read_field(s, at, 1, MOST_BASE);
+    let one = read_base(s, at);
     let Field::Value(first, at1) = one else {
         return PathRead::Fault(field_fault(one));
     };
     if count == 1 {
         return PathRead::Path(path_of(1, first, 0, 0, 0), at1);
     }
-    let two = read_field(s, at1, 1, MOST_BASE);
+    let two = read_base(s, at1);
     let Field::Value(second, at2) = two else {
         return PathRead::Fault(field_fault(two));
     };
     if count == 2 {
         return PathRead::Path(path_of(2, first, second, 0, 0), at2);
     }
-    let three = read_field(s, at2, 1, MOST_BASE);
+    let three = read_base(s, at2);
     let Field::Value(third, at3) = three else {
         return PathRead::Fault(field_fault(three));
     };
     if count == 3 {
         return PathRead::Path(path_of(3, first, second, third, 0), at3);
     }
-    let four = read_field(s, at3, 1, MOST_BASE);
+    let four = read_base(s, at3);
     let Field::Value(fourth, at4) = four else {
         return PathRead::Fault(field_fault(four));
     };
@@ -79,7 +77,7 @@ fn read_names(s: &[u8], at: usize, count: u32) -> PathRead
 pub fn read_path(s: &[u8], at: usize) -> PathRead
     ensures { λ r. ⌜ r ≡ pathRead (pathField (now (s .entry)) at) ⌝ }
 {
-    let length = read_field(s, at, 0, MOST_NAMES);
+    let length = read_length(s, at);
     let Field::Value(count, next) = length else {
         return PathRead::Fault(field_fault(length));
     };

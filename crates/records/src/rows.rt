@@ -1,8 +1,8 @@
 // Rows of numbers: where a number stands first.
 ghost use mathlib.Core.Path.{_≡_};
-ghost use Prim.Native.Nat.{_+_, _≤_};
-ghost use lib.ListN.{length, take, drop};
-ghost use Rattle.records.specs.Rows.{isAmong, Passed, First};
+ghost use Prim.Native.Nat.{_+_, _<_, _≤_};
+ghost use lib.ListN.{length, take, drop, set};
+ghost use Rattle.records.specs.Rows.{isAmong, Passed, First, markOf, Marked};
 
 // Whether one of the eight numbers from the place on is it. All eight are compared, so that the processor can do it at once.
 fn is_near(row: &[u32], at: usize, number: u32) -> bool
@@ -52,4 +52,32 @@ pub fn is_among(row: &[u32], number: u32) -> bool
     ensures { λ r. ⌜ r ≡ isAmong (now (row .entry)) number ⌝ }
 {
     find_first(row, number) < row.len()
+}
+
+// The place of a number's mark.
+fn mark_of(number: u32) -> usize
+    ensures { λ r. ⌜ (r ≡ markOf number) × (r < 512) ⌝ }
+{
+    (number % 65536 + number / 65536 * 8) as usize % 512
+}
+
+// Whether the number is one of these, which are all marked.
+pub fn is_marked_among(marks: &[u16], row: &[u32], number: u32) -> bool
+    requires { ⌜ Marked (now marks) (now row) ⌝ }
+    ensures { λ r. ⌜ r ≡ isAmong (now (row .entry)) number ⌝ }
+{
+    let place = mark_of(number);
+    if marks[place] == 0 {
+        return false;
+    }
+    is_among(row, number)
+}
+
+// Marks the number.
+pub fn mark(marks: &mut [u16], number: u32)
+    requires { ⌜ 512 ≤ length (now marks) ⌝ }
+    ensures { λ _. ⌜ now (marks .exit) ≡ set (now (marks .entry)) (markOf number) 1 ⌝ }
+{
+    let place = mark_of(number);
+    marks[place] = 1;
 }
