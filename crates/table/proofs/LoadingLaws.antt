@@ -44,7 +44,7 @@ module _ {A : Type 0} (P : List A → Reader A) (walks : (earlier : List A) → 
     size : at + length (rest s at) ≡ length s
     size = omega (arith, ap length (rest-of s at), length-drop at s)
 
-    there-got : (x : A) (n : ℕ) → P earlier (rest s at) 0 ≡ got x n → (P earlier s at ≡ got x (at + n)) × (at + n ≤ length s)
+    pub there-got : (x : A) (n : ℕ) → P earlier (rest s at) 0 ≡ got x n → (P earlier s at ≡ got x (at + n)) × (at + n ≤ length s)
     there-got x n e = (from-there earlier at ∙ ap (movedBy at) e, omega (arith, size, walks earlier .ends x (rest s at) 0 n (omega arith) e .1))
 
     -- And what stands at a place can be read from there.
@@ -55,7 +55,7 @@ module _ {A : Type 0} (P : List A → Reader A) (walks : (earlier : List A) → 
         go (got y n) q = let u : y ≡ x = cc in (n, ap (λ (z : A). got z n) u)
         go (bad f) q = let z : _≡_ {A = ℕ} 0 1 = cc in absurd (omega arith)
 
-    there-bad : (e : Fault) → P earlier (rest s at) 0 ≡ bad e → (P earlier s at ≡ bad (movedFault at e)) × (at + e .place .offset ≤ length s)
+    pub there-bad : (e : Fault) → P earlier (rest s at) 0 ≡ bad e → (P earlier s at ≡ bad (movedFault at e)) × (at + e .place .offset ≤ length s)
     there-bad e q = (from-there earlier at ∙ ap (movedBy at) q, omega (arith, size, walks earlier .within e (rest s at) 0 (omega arith) q))
 
   -- Of `count` records from `from` on, these `i` were read, and the next stands at `at`.
@@ -68,25 +68,14 @@ module _ {A : Type 0} (P : List A → Reader A) (walks : (earlier : List A) → 
   reading-start count from h = record { most = omega arith; within = h; going = going-start P s count from }
 
   module _ (count from at i : ℕ) (earlier : List A) (r : Reading count from at i earlier) where
-    pub reading-there : (x : A) (n : ℕ) → P earlier (rest s at) 0 ≡ got x n → P earlier s at ≡ got x (at + n)
-    reading-there x n e = there-got earlier at (r .within) x n e .0
-
-    pub reading-fits : (x : A) (n : ℕ) → P earlier (rest s at) 0 ≡ got x n → at + n ≤ length s
-    reading-fits x n e = there-got earlier at (r .within) x n e .1
-
-    pub fault-fits : (e : Fault) → P earlier (rest s at) 0 ≡ bad e → at + e .place .offset ≤ length s
-    fault-fits e q = there-bad earlier at (r .within) e q .1
-
     module _ (h : i < count) where
-      pub reading-on : (x : A) (n : ℕ) → P earlier (rest s at) 0 ≡ got x n → Reading count from (at + n) (i + 1) (earlier ▷ x)
-      reading-on x n e =
-          let w = there-got earlier at (r .within) x n e in
-          record { most = omega arith; within = w .1; going = going-on P s count from i at earlier (r .going) h x (at + n) (w .0) }
+      -- With the record that stands at the place.
+      pub reading-next : (x : A) (next : ℕ) → P earlier s at ≡ got x next → Reading count from next (i + 1) (earlier ▷ x)
+      reading-next x next e = record { most = omega arith; within = walks earlier .ends x s at next (r .within) e .1; going = going-on P s count from i at earlier (r .going) h x next e }
 
-      pub reading-bad : (K : List A → Type 0) (e g : Fault) → P earlier (rest s at) 0 ≡ bad e → g ≡ movedFault at e → Besides afterRead K (after.Fault g) (many P count [] s from)
-      reading-bad K e g q m =
-          ill afterRead K (after.Fault g) (many P count [] s from) (after-apart g)
-          (ap after.Fault m ∙ ap afterRead (sym (going-bad P s count from i at earlier (r .going) h (movedFault at e) (there-bad earlier at (r .within) e q .0))))
+      -- With the fault that is found at the place.
+      pub reading-stop : (K : List A → Type 0) (e : Fault) → P earlier s at ≡ bad e → Besides afterRead K (after.Fault e) (many P count [] s from)
+      reading-stop K e q = ill afterRead K (after.Fault e) (many P count [] s from) (after-apart e) (ap afterRead (sym (going-bad P s count from i at earlier (r .going) h e q)))
 
     pub reading-end : (K : List A → Type 0) → K earlier → count ≤ i → Besides afterRead K (after.At at) (many P count [] s from)
     reading-end K k h =

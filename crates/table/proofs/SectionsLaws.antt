@@ -20,6 +20,7 @@ use Rattle.records.proofs.FieldsLaws.{field-got, field-told, field-within}
 use Rattle.records.proofs.FieldsForm.{number-walks, field-walks}
 use Rattle.records.proofs.ManyLaws.{many-length}
 use Rattle.records.proofs.ManyForm.{many-walks}
+use Rattle.table.proofs.AnswersLaws.{after-got, after-told}
 use Rattle.table.proofs.LoadingLaws.{Besides, ill, well}
 use Rattle.table.specs.Kept.{IfGood}
 use Rattle.table.specs.Sections.{version, Part, section, allOf, sectionOf, sectionRead, sectionFault, afterRead, afterFault}
@@ -56,14 +57,6 @@ version-within s wanted r v at found e =
 
 -- ---- records
 module _ {A : Type 0} where
-  pub after-got : (p : Parsed (List A)) (r : After) (at : ℕ) → r ≡ afterRead p → r ≡ after.At at → (l : List A) × (p ≡ got l at)
-  after-got (got l n) r at e h = (l, let q : n ≡ at = cc in ap (got l) q)
-  after-got (bad g) r at e h = let z : _≡_ {A = ℕ} 0 1 = cc in absurd (omega arith)
-
-  pub after-told : (p : Parsed (List A)) (r : After) (g f : Fault) → r ≡ afterRead p → r ≡ after.Fault g → f ≡ afterFault r → p ≡ bad f
-  after-told (got l n) r g f e h q = let z : _≡_ {A = ℕ} 0 1 = cc in absurd (omega arith)
-  after-told (bad d) r g f e h q = let x : d ≡ f = sym (q ∙ ap afterFault e) in ap bad x
-
   pub section-got : (p : Parsed (Part A)) (r : SectionRead) (x : Section) (at : ℕ) → r ≡ sectionRead p → r ≡ asSection.Section x at → (l : Part A) × (p ≡ got l at) × (sectionOf l ≡ x)
   section-got (got l n) r x at e h =
       let a : n ≡ at = cc in

@@ -4,8 +4,10 @@ use Prim.Native.Nat.{ℕ}
 use lib.Dec.{eqb, leb}
 use lib.ListN.{length}
 use Rattle.rules.specs.Choice.{pick}
+use Rattle.rules.specs.Tables.{Binding}
 use Rattle.records.specs.Parsed.{Parsed, got, bad, Reader, faultAt, _⟫_}
 use Rattle.records.specs.Fields.{tested, field}
+use Rattle.records.specs.Bindings.{packed}
 use Rattle.records.specs.Many.{many}
 use Rattle.records.specs.declared.faults.Kind.the-variants as kind
 use Rattle.records.specs.declared.faults.Fault.{Fault}
@@ -14,6 +16,8 @@ use Rattle.table.specs.declared.loading.SectionRead.{SectionRead}
 use Rattle.table.specs.declared.loading.SectionRead.the-variants as asSection
 use Rattle.table.specs.declared.loading.After.{After}
 use Rattle.table.specs.declared.loading.After.the-variants as after
+use Rattle.table.specs.declared.loading.Bound.{Bound}
+use Rattle.table.specs.declared.loading.Bound.the-variants as asBound
 
 unfoldable pub version : ℕ → Reader ℕ
 version v = tested kind.Version (λ n. eqb n v)
@@ -39,9 +43,14 @@ abbrev pub sectionRead : {A : Type 0} → Parsed (Part A) → SectionRead
 sectionRead (got p at) = asSection.Section (sectionOf p) at
 sectionRead (bad e) = asSection.Fault e
 
-abbrev pub afterRead : {A : Type 0} → Parsed (List A) → After
-afterRead (got l at) = after.At at
+abbrev pub afterRead : {A : Type 0} → Parsed A → After
+afterRead (got x at) = after.At at
 afterRead (bad e) = after.Fault e
+
+-- A binding, of which the name is kept, packed.
+abbrev pub boundRead : Parsed Binding → Bound
+boundRead (got x at) = asBound.Name (packed (x .space) (x .base)) at
+boundRead (bad e) = asBound.Fault e
 
 abbrev pub sectionFault : SectionRead → Fault
 sectionFault (asSection.Section x at) = faultAt kind.Range 0

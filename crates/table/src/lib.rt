@@ -81,7 +81,8 @@ pub fn load_index(
     let SectionRead::Section(spaces, at2) = first else {
         return Loaded::Bad(section_fault(first));
     };
-    let second = load_bindings(table, at2, spaces.count, names, bindings);
+    // The row of the delegations waits its turn, and serves to mark names till then.
+    let second = load_bindings(table, at2, spaces.count, names, bindings, delegations);
     let SectionRead::Section(binding_section, at3) = second else {
         return Loaded::Bad(section_fault(second));
     };

@@ -6,10 +6,11 @@ ghost use lib.ListN.{length};
 ghost use Rattle.rules.specs.Ranges.{mostSpaces, mostBindings, mostAccesses, mostDelegations};
 ghost use Rattle.records.specs.Fields.{fieldRead};
 ghost use Rattle.records.specs.Many.{many};
-ghost use Rattle.records.specs.Bindings.{bindingRecord, isBound};
+ghost use Rattle.records.specs.Bindings.{bindingRecord, isBound, packed};
+ghost use Rattle.records.specs.Rows.{isAmong, Marked};
 ghost use Rattle.records.specs.Accesses.{accessRecord};
 ghost use Rattle.records.specs.Delegations.{delegationRecord};
-ghost use Rattle.table.specs.Sections.{version, section, sectionRead, sectionFault, afterRead, afterFault};
+ghost use Rattle.table.specs.Sections.{version, section, sectionRead, sectionFault, afterRead, afterFault, boundRead};
 ghost use Rattle.table.specs.ReadTable.{mostTable, spaceKey};
 ghost use Rattle.table.specs.Kept.{IfGood, Kept, Standing, numberOf, nameOf, unbound};
 use records::accesses::AccessRead;
@@ -29,8 +30,13 @@ use records::fields::field_fault;
 use records::fields::key_fault;
 use records::fields::read_field;
 use records::fields::read_key;
+use records::passing::pass_access;
+use records::passing::pass_binding;
+use records::passing::pass_delegation;
 use records::reader::number_at;
 use records::rows::is_among;
+use records::rows::is_marked_among;
+use records::rows::mark;
 
 pub const MOST_SPACES: u32 = 64;
 
@@ -55,6 +61,12 @@ pub enum SectionRead {
 // The place after records that were read.
 pub enum After {
     At(usize),
+    Fault(Fault),
+}
+
+// A name that is bound, packed, and the place after its binding.
+pub enum Bound {
+    Name(u32, usize),
     Fault(Fault),
 }
 
@@ -95,7 +107,28 @@ fn read_spaces(table: &[u8], from: usize, count: usize, keys: &mut [u32]) -> Aft
     After::At(at)
 }
 
-// So many bindings from a place on; the names that they bind are kept in `names`, packed, and where they stand in `places`.
+// The name that the binding at a place binds; `earlier` are the names that are bound already, which are all marked.
+fn after_binding(table: &[u8], at: usize, spaces: usize, earlier: &[u32], marks: &[u16]) -> Bound
+    requires { ⌜ (at ≤ length (now table)) × (length (now table) ≤ mostTable) × (spaces ≤ mostSpaces) × Marked (now marks) (now earlier) ⌝ }
+    ensures { λ r. ⌜ r ≡ boundRead (bindingRecord spaces (λ S b. isAmong (now (earlier .entry)) (packed S b)) (now (table .entry)) at) ⌝ }
+{
+    let passed = pass_binding(&table[at..], spaces);
+    let taken = passed.next;
+    let name = passed.value;
+    if 0 < taken {
+        if !is_marked_among(marks, earlier, name) {
+            return Bound::Name(name, at + taken);
+        }
+    }
+    match read_binding(&table[at..], spaces, earlier) {
+        BindingRead::Binding(binding, taken) => {
+            Bound::Name(pack(binding.space, binding.base), at + taken)
+        }
+        BindingRead::Fault(fault) => Bound::Fault(moved(fault, at)),
+    }
+}
+
+// So many bindings from a place on; the names that they bind are kept in `names`, packed, and where they stand in `places`; `marks` is a row to mark them in.
 fn read_bindings(
     table: &[u8],
     from: usize,
@@ -103,8 +136,9 @@ fn read_bindings(
     spaces: usize,
     names: &mut [u32],
     places: &mut [u16],
+    marks: &mut [u16],
 ) -> After
-    requires { ⌜ (count ≤ length (now names)) × (count ≤ length (now places)) × (spaces ≤ mostSpaces) × (from ≤ length (now table)) × (length (now table) ≤ mostTable) ⌝ }
+    requires { ⌜ (count ≤ length (now names)) × (count ≤ length (now places)) × (spaces ≤ mostSpaces) × (from ≤ length (now table)) × (length (now table) ≤ mostTable) × (mostDelegations ≤ length (now marks)) ⌝ }
     ensures read { λ r. ⌜ r ≡ afterRead (many (λ earlier. bindingRecord spaces (isBound earlier)) count [] (now (table .entry)) from) ⌝ }
     ensures kept { λ r. ⌜ IfGood (many (λ earlier. bindingRecord spaces (isBound earlier)) count [] (now (table .entry)) from)
         (λ l. Kept nameOf (now (names .exit)) l × Standing (bindingRecord spaces unbound) (now (table .entry)) (now (places .exit)) l) ⌝ }
@@ -112,19 +146,35 @@ fn read_bindings(
     let mut at = from;
     let mut i = 0;
     while i < count {
-        match read_binding(&table[at..], spaces, &names[..i]) {
-            BindingRead::Binding(binding, taken) => {
-                names[i] = pack(binding.space, binding.base);
+        match after_binding(table, at, spaces, &names[..i], marks) {
+            Bound::Name(name, next) => {
+                names[i] = name;
+                mark(marks, name);
                 places[i] = at as u16;
-                at = at + taken;
+                at = next;
                 i = i + 1;
             }
-            BindingRead::Fault(fault) => {
-                return After::Fault(moved(fault, at));
+            Bound::Fault(fault) => {
+                return After::Fault(fault);
             }
         }
     }
     After::At(at)
+}
+
+// The place after the access record at a place: most are passed over, and only the others are read.
+fn after_access(table: &[u8], at: usize, spaces: usize) -> After
+    requires { ⌜ (at ≤ length (now table)) × (length (now table) ≤ mostTable) ⌝ }
+    ensures { λ r. ⌜ r ≡ afterRead (accessRecord spaces (now (table .entry)) at) ⌝ }
+{
+    let taken = pass_access(&table[at..], spaces);
+    if 0 < taken {
+        return After::At(at + taken);
+    }
+    match read_access(&table[at..], spaces) {
+        AccessRead::Access(_, taken) => After::At(at + taken),
+        AccessRead::Fault(fault) => After::Fault(moved(fault, at)),
+    }
 }
 
 // So many access records from a place on; where they stand is kept in `places`.
@@ -142,18 +192,30 @@ fn read_accesses(
     let mut at = from;
     let mut i = 0;
     while i < count {
-        match read_access(&table[at..], spaces) {
-            AccessRead::Access(_, taken) => {
-                places[i] = at as u16;
-                at = at + taken;
-                i = i + 1;
-            }
-            AccessRead::Fault(fault) => {
-                return After::Fault(moved(fault, at));
-            }
-        }
+        let found = after_access(table, at, spaces);
+        let After::At(next) = found else {
+            return After::Fault(after_fault(found));
+        };
+        places[i] = at as u16;
+        at = next;
+        i = i + 1;
     }
     After::At(at)
+}
+
+// The place after the delegation at a place: most are passed over, and only the others are read.
+fn after_delegation(table: &[u8], at: usize, spaces: usize) -> After
+    requires { ⌜ (at ≤ length (now table)) × (length (now table) ≤ mostTable) ⌝ }
+    ensures { λ r. ⌜ r ≡ afterRead (delegationRecord spaces (now (table .entry)) at) ⌝ }
+{
+    let taken = pass_delegation(&table[at..], spaces);
+    if 0 < taken {
+        return After::At(at + taken);
+    }
+    match read_delegation(&table[at..], spaces) {
+        DelegationRead::Delegation(_, taken) => After::At(at + taken),
+        DelegationRead::Fault(fault) => After::Fault(moved(fault, at)),
+    }
 }
 
 // So many delegations from a place on; where they stand is kept in `places`.
@@ -171,16 +233,13 @@ fn read_delegations(
     let mut at = from;
     let mut i = 0;
     while i < count {
-        match read_delegation(&table[at..], spaces) {
-            DelegationRead::Delegation(_, taken) => {
-                places[i] = at as u16;
-                at = at + taken;
-                i = i + 1;
-            }
-            DelegationRead::Fault(fault) => {
-                return After::Fault(moved(fault, at));
-            }
-        }
+        let found = after_delegation(table, at, spaces);
+        let After::At(next) = found else {
+            return After::Fault(after_fault(found));
+        };
+        places[i] = at as u16;
+        at = next;
+        i = i + 1;
     }
     After::At(at)
 }
@@ -203,15 +262,16 @@ pub fn load_spaces(table: &[u8], from: usize, keys: &mut [u32]) -> SectionRead
     SectionRead::Section(Section { count, first }, at)
 }
 
-// The section of the bindings; the names that they bind are kept in `names`, packed, and where they stand in `places`.
+// The section of the bindings; the names that they bind are kept in `names`, packed, and where they stand in `places`; `marks` is a row to mark them in.
 pub fn load_bindings(
     table: &[u8],
     from: usize,
     spaces: usize,
     names: &mut [u32],
     places: &mut [u16],
+    marks: &mut [u16],
 ) -> SectionRead
-    requires { ⌜ (mostBindings ≤ length (now names)) × (mostBindings ≤ length (now places)) × (spaces ≤ mostSpaces) × (from ≤ length (now table)) × (length (now table) ≤ mostTable) ⌝ }
+    requires { ⌜ (mostBindings ≤ length (now names)) × (mostBindings ≤ length (now places)) × (spaces ≤ mostSpaces) × (from ≤ length (now table)) × (length (now table) ≤ mostTable) × (mostDelegations ≤ length (now marks)) ⌝ }
     ensures read { λ r. ⌜ r ≡ sectionRead (section mostBindings (λ earlier. bindingRecord spaces (isBound earlier)) (now (table .entry)) from) ⌝ }
     ensures kept { λ r. ⌜ IfGood (section mostBindings (λ earlier. bindingRecord spaces (isBound earlier)) (now (table .entry)) from)
         (λ l. Kept nameOf (now (names .exit)) (l .records) × Standing (bindingRecord spaces unbound) (now (table .entry)) (now (places .exit)) (l .records)) ⌝ }
@@ -221,7 +281,7 @@ pub fn load_bindings(
         return SectionRead::Fault(field_fault(header));
     };
     let count = number as usize;
-    let rest = read_bindings(table, first, count, spaces, names, places);
+    let rest = read_bindings(table, first, count, spaces, names, places, marks);
     let After::At(at) = rest else {
         return SectionRead::Fault(after_fault(rest));
     };

@@ -24,7 +24,7 @@ cast-count : tie.Need-cast-count
 cast-count c = search needs
 
 read-bindings-requires : tie.Need-read-bindings-requires
-read-bindings-requires c κs = let n = count-few _ _ _ _ _ _ (c .before .before .before .before .before .read-field .ensures) (c .before .before .before .header .given .1) in (omega (arith, n, c .before .before .before .before .before .before .before .before .before .pre .0), omega (arith, n, c .before .before .before .before .before .before .before .before .before .pre .1), c .before .before .before .before .before .before .before .before .before .pre .2, count-within _ _ _ _ _ _ (c .before .before .before .before .before .read-field .ensures) (c .before .before .before .header .given .1) (c .before .before .before .before .before .before .before .before .before .pre .3), c .before .before .before .before .before .before .before .before .before .pre .4)
+read-bindings-requires c κs = let n = count-few _ _ _ _ _ _ (c .before .before .before .before .before .before .read-field .ensures) (c .before .before .before .before .header .given .1) in (omega (arith, n, c .before .before .before .before .before .before .before .before .before .before .before .pre .0), omega (arith, n, c .before .before .before .before .before .before .before .before .before .before .before .pre .1), c .before .before .before .before .before .before .before .before .before .before .before .pre .2, count-within _ _ _ _ _ _ (c .before .before .before .before .before .before .read-field .ensures) (c .before .before .before .before .header .given .1) (c .before .before .before .before .before .before .before .before .before .before .before .pre .3), c .before .before .before .before .before .before .before .before .before .before .before .pre .4, c .before .before .before .before .before .before .before .before .before .before .before .pre .5)
 
 enum-known-rest : tie.Need-enum-known-rest
 enum-known-rest c = search needs
@@ -41,17 +41,23 @@ same-length c = search needs
 same-length-2 : tie.Need-same-length-2
 same-length-2 c = search needs
 
-returns-2 : tie.Need-returns-2
-returns-2 c = records-fail _ _ _ _ _ (c .before .before .before .before .before .before .before .before .before .before .before .before .before .read-field .ensures) _ _ _ (c .before .before .before .before .before .before .before .before .before .before .before .header .given .1) _ (c .before .before .before .before .before .before .before .read-bindings .ensures .0) _ _ (c .before .enum-told2 .given .1) (c .after-fault .ensures)
-
 same-length-3 : tie.Need-same-length-3
 same-length-3 c = search needs
+
+returns-2 : tie.Need-returns-2
+returns-2 c = records-fail _ _ _ _ _ (c .before .before .before .before .before .before .before .before .before .before .before .before .before .before .before .before .read-field .ensures) _ _ _ (c .before .before .before .before .before .before .before .before .before .before .before .before .before .before .header .given .1) _ (c .before .before .before .before .before .before .before .before .before .read-bindings .ensures .0) _ _ (c .before .enum-told2 .given .1) (c .after-fault .ensures)
 
 same-length-4 : tie.Need-same-length-4
 same-length-4 c = search needs
 
+same-length-5 : tie.Need-same-length-5
+same-length-5 c = search needs
+
+same-length-6 : tie.Need-same-length-6
+same-length-6 c = search needs
+
 returns-3 : tie.Need-returns-3
-returns-3 c = section-found _ _ _ _ _ (c .before .before .before .before .before .before .before .before .before .before .before .before .before .read-field .ensures) _ _ _ (c .before .before .before .before .before .before .before .before .before .before .before .header .given .1) _ (c .before .before .before .before .before .before .before .read-bindings .ensures .0) _ (c .before .rest .given .1) (c .before .before .before .before .before .before .before .read-bindings .ensures .1)
+returns-3 c = section-found _ _ _ _ _ (c .before .before .before .before .before .before .before .before .before .before .before .before .before .before .before .before .read-field .ensures) _ _ _ (c .before .before .before .before .before .before .before .before .before .before .before .before .before .before .header .given .1) _ (c .before .before .before .before .before .before .before .before .before .read-bindings .ensures .0) _ (c .before .rest .given .1) (c .before .before .before .before .before .before .before .before .before .read-bindings .ensures .1)
 
 pub load-bindings-spec : {M : Type 1} → statement M
 load-bindings-spec =
@@ -69,7 +75,9 @@ load-bindings-spec =
     after-fault-requires
     same-length
     same-length-2
-    returns-2
     same-length-3
+    returns-2
     same-length-4
+    same-length-5
+    same-length-6
     returns-3)
