@@ -2,7 +2,7 @@
 use mathlib.Core.Path.{_≡_, refl, sym, _∙_, ap, subst, subst₂}
 use mathlib.Core.Bool.{Bool, true, false}
 use mathlib.Core.List.{List, [], _∷_}
-use Prim.Native.Nat.{ℕ, zero, suc, _+_, _<_, _≤_}
+use Prim.Native.Nat.{ℕ, zero, suc, _+_, _/_, _%_, _<_, _≤_}
 use native.Mathlib.Nat.{le-refl, not-suc-le-zero, le-of-suc-le-suc}
 use native.Mathlib.Omega.{arith}
 use lib.ListN.{length, take, getD, set, length-append, length-set}
@@ -12,15 +12,18 @@ use Rattle.rules.specs.Lists.{At, _▷_}
 use Rattle.rules.proofs.ListsLaws.{at-tail}
 use Rattle.records.specs.Parsed.{Parsed, got, bad, Reader, movedFault}
 use Rattle.records.specs.Many.{many}
+use Rattle.records.specs.Passing.{Sifts}
 use Rattle.records.specs.declared.faults.Fault.{Fault}
 use Rattle.records.proofs.FormatLaws.{Walks}
 use Rattle.table.specs.Sections.{afterRead}
 use Rattle.table.specs.Kept.{Standing}
+use Rattle.table.specs.declared.loading.After.{After}
 use Rattle.table.specs.declared.loading.After.the-variants as after
 use Rattle.table.proofs.FindingLaws.{at-below}
 use Rattle.table.proofs.KeptLaws.{standing-none, standing-more}
-use Rattle.table.proofs.LoadingLaws.{Besides, rest, Reading, reading-there, reading-fits, fault-fits, reading-start, reading-on, reading-bad, reading-end, there-back}
-use Rattle.keytable.specs.Keeping.{sift, Placed}
+use Rattle.table.proofs.LoadingLaws.{Besides, rest, there-got, there-bad, there-back, Reading, reading-start, reading-next, reading-stop, reading-end}
+use Rattle.keytable.specs.Keeping.{sift, Placed, Sifted}
+use Rattle.keytable.specs.declared.loading.AfterKept.{AfterKept}
 
 -- ---- what passes
 module _ {A : Type 0} (f : A → Bool) where
@@ -89,6 +92,40 @@ module _ {A : Type 0} (P : Reader A) (s : List ℕ) where
     };
   }
 
+-- ---- one record, read from the rest of the bytes
+module _ {A : Type 0} (P : Reader A) (walks : Walks P) (s : List ℕ) (at : ℕ) (h : at ≤ length s) where
+  -- The place after it is within the bytes, and so is the place of its fault.
+  pub one-fits : (x : A) (t : ℕ) → P (rest s at) 0 ≡ got x t → at + t ≤ length s
+  one-fits x t e = there-got (λ e. P) (λ e. walks) s [] at h x t e .1
+
+  pub one-moves : (e : Fault) → P (rest s at) 0 ≡ bad e → at + e .place .offset ≤ length s
+  one-moves e q = there-bad (λ e. P) (λ e. walks) s [] at h e q .1
+
+  module _ (f : A → Bool) where
+    -- It is good.
+    pub sifted-got : (x : A) (t m : ℕ) → P (rest s at) 0 ≡ got x t → m ≡ pick (f x) 1 0 → Sifted P f s at (record { after = after.At (at + t); kept = m })
+    sifted-got x t m e k = record {
+      good = λ next q. let n : at + t ≡ next = cc q in (x, there-got (λ e. P) (λ e. walks) s [] at h x t e .0 ∙ ap (got x) n, k);
+      ill = λ g q. let z : _≡_ {A = ℕ} 0 1 = cc q in absurd (omega arith);
+    }
+
+    -- It has a fault.
+    pub sifted-bad : (e g : Fault) (m : ℕ) → P (rest s at) 0 ≡ bad e → g ≡ movedFault at e → Sifted P f s at (record { after = after.Fault g; kept = m })
+    sifted-bad e g m q k = record {
+      good = λ next w. let z : _≡_ {A = ℕ} 0 1 = cc w in absurd (omega arith);
+      ill = λ d w. let u : movedFault at e ≡ d = sym k ∙ cc w in there-bad (λ e. P) (λ e. walks) s [] at h e q .0 ∙ ap bad u;
+    }
+
+-- It is passed over.
+pub sifted-told : {A : Type 0} (P : Reader A) (f : A → Bool) (s : List ℕ) (at r : ℕ) → Sifts P f s at r → 0 < r → Sifted P f s at (record { after = after.At (r / 2); kept = r % 2 })
+sifted-told P f s at r w told =
+    let g = w .good told in
+    record {
+      good = λ next q. let n : r / 2 ≡ next = cc q in (g .0, g .1 ∙ ap (got (g .0)) n, g .2);
+      ill = λ e q. let z : _≡_ {A = ℕ} 0 1 = cc q in absurd (omega arith);
+    }
+
+-- ---- so many records
 module _ {A : Type 0} (P : Reader A) (walks : Walks P) (f : A → Bool) (s : List ℕ) where
   -- Of `count` records from `from` on, `i` were read; `n` of them pass, and their places are kept.
   pub record Sifting (count from room : ℕ) (places : List ℕ) (at i n : ℕ) : Type 0 where
@@ -115,12 +152,6 @@ module _ {A : Type 0} (P : Reader A) (walks : Walks P) (f : A → Bool) (s : Lis
     pub sifting-few : n ≤ i
     sifting-few = omega (arith, r .kept, sift-few f (r .earlier), r .reading .going .read)
 
-    pub sifting-fits : (x : A) (t : ℕ) → P (rest s at) 0 ≡ got x t → at + t ≤ length s
-    sifting-fits x t e = reading-fits (λ e. P) (λ e. walks) s count from at i (r .earlier) (r .reading) x t e
-
-    pub sifting-moves : (e : Fault) → P (rest s at) 0 ≡ bad e → at + e .place .offset ≤ length s
-    sifting-moves e q = fault-fits (λ e. P) (λ e. walks) s count from at i (r .earlier) (r .reading) e q
-
     module _ (few : count ≤ room) where
       pub sifting-end : count ≤ i → Besides afterRead Keeps (after.At at) (many (λ e. P) count [] s from)
       sifting-end h =
@@ -131,32 +162,39 @@ module _ {A : Type 0} (P : Reader A) (walks : Walks P) (f : A → Bool) (s : Lis
         pub sifting-room : n < length places
         sifting-room = omega (arith, few, h, sifting-few, r .size)
 
-        pub sifting-bad : (K : List A → Type 0) (e g : Fault) → P (rest s at) 0 ≡ bad e → g ≡ movedFault at e → Besides afterRead K (after.Fault g) (many (λ e. P) count [] s from)
-        sifting-bad K e g q m = reading-bad (λ e. P) (λ e. walks) s count from at i (r .earlier) (r .reading) h K e g q m
+        module _ (found : AfterKept) (w : Sifted P f s at found) where
+          -- The next has a fault, and so have they all.
+          pub sifting-bad : (K : List A → Type 0) (e : Fault) → found .after ≡ after.Fault e → Besides afterRead K (found .after) (many (λ e. P) count [] s from)
+          sifting-bad K e q =
+              subst (λ (a : After). Besides afterRead K a (many (λ e. P) count [] s from)) (sym q)
+              (reading-stop (λ e. P) (λ e. walks) s count from at i (r .earlier) (r .reading) h K e (w .ill e q))
 
-        pub sifting-on : (x : A) (t m : ℕ) → P (rest s at) 0 ≡ got x t → m ≡ pick (f x) 1 0 → Sifting count from room (set places n at) (at + t) (i + 1) (n + m)
-        sifting-on x t m e q = record {
-          size = length-set places n at ∙ r .size;
-          earlier = r .earlier ▷ x;
-          reading = reading-on (λ e. P) (λ e. walks) s count from at i (r .earlier) (r .reading) h x t e;
-          kept = passed (f x) refl .0;
-          standing = passed (f x) refl .1;
-        }
-          where
-            passed : (b : Bool) → f x ≡ b → (n + m ≡ length (sift f (r .earlier ▷ x))) × Standing P s (set places n at) (sift f (r .earlier ▷ x))
-            passed true p =
-                let k : m ≡ 1 = q ∙ ap (λ (b : Bool). pick b 1 0) p in (
-                  omega (arith, k, r .kept, ap length (sift-kept f (r .earlier) x p), length-append (sift f (r .earlier)) (x ∷ [])),
-                  subst₂ (λ (j : ℕ) (l : List A). Standing P s (set places j at) l) (sym (r .kept)) (sym (sift-kept f (r .earlier) x p))
-                      (standing-more P s places (sift f (r .earlier)) x at (at + t) (omega (arith, sifting-room, r .kept)) (r .reading .within)
-                      (reading-there (λ e. P) (λ e. walks) s count from at i (r .earlier) (r .reading) x t e) (r .standing)),
-                )
-            passed false p =
-                let k : m ≡ 0 = q ∙ ap (λ (b : Bool). pick b 1 0) p in (
-                  omega (arith, k, r .kept, ap length (sift-passed f (r .earlier) x p)),
-                  subst₂ (λ (j : ℕ) (l : List A). Standing P s (set places j at) l) (sym (r .kept)) (sym (sift-passed f (r .earlier) x p))
-                      (standing-still P s places (sift f (r .earlier)) at (r .standing)),
-                )
+          -- One more is read, and its place is kept if it passes.
+          pub sifting-on : (next : ℕ) → found .after ≡ after.At next → Sifting count from room (set places n at) next (i + 1) (n + found .kept)
+          sifting-on next q = more (found .kept) (w .good next q)
+            where
+              more : (m : ℕ) → (x : A) × (P s at ≡ got x next) × (m ≡ pick (f x) 1 0) → Sifting count from room (set places n at) next (i + 1) (n + m)
+              more m (x, e, k) = record {
+                size = length-set places n at ∙ r .size;
+                earlier = r .earlier ▷ x;
+                reading = reading-next (λ e. P) (λ e. walks) s count from at i (r .earlier) (r .reading) h x next e;
+                kept = passed (f x) refl .0;
+                standing = passed (f x) refl .1;
+              }
+                where
+                  passed : (b : Bool) → f x ≡ b → (n + m ≡ length (sift f (r .earlier ▷ x))) × Standing P s (set places n at) (sift f (r .earlier ▷ x))
+                  passed true p =
+                      let c : m ≡ 1 = k ∙ ap (λ (b : Bool). pick b 1 0) p in (
+                        omega (arith, c, r .kept, ap length (sift-kept f (r .earlier) x p), length-append (sift f (r .earlier)) (x ∷ [])),
+                        subst₂ (λ (j : ℕ) (l : List A). Standing P s (set places j at) l) (sym (r .kept)) (sym (sift-kept f (r .earlier) x p))
+                            (standing-more P s places (sift f (r .earlier)) x at next (omega (arith, sifting-room, r .kept)) (r .reading .within) e (r .standing)),
+                      )
+                  passed false p =
+                      let c : m ≡ 0 = k ∙ ap (λ (b : Bool). pick b 1 0) p in (
+                        omega (arith, c, r .kept, ap length (sift-passed f (r .earlier) x p)),
+                        subst₂ (λ (j : ℕ) (l : List A). Standing P s (set places j at) l) (sym (r .kept)) (sym (sift-passed f (r .earlier) x p))
+                            (standing-still P s places (sift f (r .earlier)) at (r .standing)),
+                      )
 
 -- ---- reading again at a place that is kept: no record has a fault, and each is the one of its number
 module _ {A : Type 0} (P : Reader A) (walks : Walks P) (s places : List ℕ) (count : ℕ) (l : List A) (w : Placed P s places count l) (i : ℕ) (h : i < count) where

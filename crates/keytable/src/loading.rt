@@ -10,7 +10,7 @@ ghost use Rattle.records.specs.KeyRecords.{keyAccessRecord, keyDelegationRecord
 ghost use Rattle.table.specs.Sections.{section, sectionRead, afterRead};
 ghost use Rattle.table.specs.Kept.{IfGood};
 ghost use Rattle.table.specs.ReadKeyTable.{mostKeyTable};
-ghost use Rattle.keytable.specs.Keeping.{isAsked, accessAsked, delegationAsked, sift, Placed};
+ghost use Rattle.keytable.specs.Keeping.{isAsked, accessAsked, delegationAsked, sift, Placed, Sifted};
 ghost use Rattle.keytable.specs.Matching.{keyRequestOf};
 use crate::matching::is_asked;
 use records::faults::moved;
@@ -22,6 +22,8 @@ use records::keys::KeyAccessRead;
 use records::keys::KeyDelegationRead;
 use records::keys::read_key_access;
 use records::keys::read_key_delegation;
+use records::passing::pass_key_access;
+use records::passing::pass_key_delegation;
 use records::requests::KeyRequest;
 use rules::Key;
 use table::loading::After;
@@ -53,6 +55,58 @@ fn one_if_asked(request: KeyRequest, owner: Key, wanted: Use) -> usize
     0
 }
 
+// The place after the key access record at a place, and one if it is for what is asked, else none.
+fn after_access(table: &[u8], at: usize, request: KeyRequest) -> AfterKept
+    requires { ⌜ (at ≤ length (now table)) × (length (now table) ≤ mostKeyTable) ⌝ }
+    ensures { λ r. ⌜ Sifted keyAccessRecord (accessAsked (keyRequestOf request .asked)) (now (table .entry)) at r ⌝ }
+{
+    let owner = request.owner;
+    let wanted = request.wanted;
+    let passed = pass_key_access(table, at, owner.0, wanted.object, wanted.right);
+    if 0 < passed {
+        return AfterKept {
+            after: After::At(passed / 2),
+            kept: passed % 2,
+        };
+    }
+    match read_key_access(&table[at..]) {
+        KeyAccessRead::KeyAccess(access, taken) => AfterKept {
+            after: After::At(at + taken),
+            kept: one_if_asked(request, access.owner, access.wanted),
+        },
+        KeyAccessRead::Fault(fault) => AfterKept {
+            after: After::Fault(moved(fault, at)),
+            kept: 0,
+        },
+    }
+}
+
+// The place after the key delegation at a place, and one if it is for what is asked, else none.
+fn after_delegation(table: &[u8], at: usize, request: KeyRequest) -> AfterKept
+    requires { ⌜ (at ≤ length (now table)) × (length (now table) ≤ mostKeyTable) ⌝ }
+    ensures { λ r. ⌜ Sifted keyDelegationRecord (delegationAsked (keyRequestOf request .asked)) (now (table .entry)) at r ⌝ }
+{
+    let owner = request.owner;
+    let wanted = request.wanted;
+    let passed = pass_key_delegation(table, at, owner.0, wanted.object, wanted.right);
+    if 0 < passed {
+        return AfterKept {
+            after: After::At(passed / 2),
+            kept: passed % 2,
+        };
+    }
+    match read_key_delegation(&table[at..]) {
+        KeyDelegationRead::KeyDelegation(delegation, taken) => AfterKept {
+            after: After::At(at + taken),
+            kept: one_if_asked(request, delegation.owner, delegation.wanted),
+        },
+        KeyDelegationRead::Fault(fault) => AfterKept {
+            after: After::Fault(moved(fault, at)),
+            kept: 0,
+        },
+    }
+}
+
 // So many key access records from a place on; where those stand that are for what is asked is kept in `places`.
 fn read_accesses(
     table: &[u8],
@@ -70,20 +124,16 @@ fn read_accesses(
     let mut i = 0;
     let mut n = 0;
     while i < count {
-        match read_key_access(&table[at..]) {
-            KeyAccessRead::KeyAccess(access, taken) => {
-                places[n] = at as u16;
-                n = n + one_if_asked(request, access.owner, access.wanted);
-                at = at + taken;
-                i = i + 1;
-            }
-            KeyAccessRead::Fault(fault) => {
-                return AfterKept {
-                    after: After::Fault(moved(fault, at)),
-                    kept: 0,
-                };
-            }
-        }
+        let found = after_access(table, at, request);
+        let after = found.after;
+        let kept = found.kept;
+        let After::At(next) = after else {
+            return found;
+        };
+        places[n] = at as u16;
+        n = n + kept;
+        at = next;
+        i = i + 1;
     }
     AfterKept {
         after: After::At(at),
@@ -108,20 +158,16 @@ fn read_delegations(
     let mut i = 0;
     let mut n = 0;
     while i < count {
-        match read_key_delegation(&table[at..]) {
-            KeyDelegationRead::KeyDelegation(delegation, taken) => {
-                places[n] = at as u16;
-                n = n + one_if_asked(request, delegation.owner, delegation.wanted);
-                at = at + taken;
-                i = i + 1;
-            }
-            KeyDelegationRead::Fault(fault) => {
-                return AfterKept {
-                    after: After::Fault(moved(fault, at)),
-                    kept: 0,
-                };
-            }
-        }
+        let found = after_delegation(table, at, request);
+        let after = found.after;
+        let kept = found.kept;
+        let After::At(next) = after else {
+            return found;
+        };
+        places[n] = at as u16;
+        n = n + kept;
+        at = next;
+        i = i + 1;
     }
     AfterKept {
         after: After::At(at),

@@ -1,4 +1,4 @@
--- `read_delegations` goes on as `many` of them does, each read from the rest of the bytes, and keeps the places of those that are for what is asked.
+-- `read_delegations` goes on as `many` of them does, one after the other, and keeps the places of those that are for what is asked.
 use Prim.Native.Nat.{_-_}
 use native.Mathlib.Omega.{arith}
 use lib.ListN.{length}
@@ -6,8 +6,7 @@ use Rattle.records.specs.KeyRecords.{keyDelegationRecord}
 use Rattle.records.proofs.KeyRecordsForm.{key-delegation-walks}
 use Rattle.keytable.specs.Keeping.{delegationAsked}
 use Rattle.keytable.specs.Matching.{keyRequestOf}
-use Rattle.keytable.proofs.AnswersLaws.{delegation-got, delegation-bad}
-use Rattle.keytable.proofs.SiftingLaws.{Sifting, sifting-start, sifting-few, sifting-fits, sifting-moves, sifting-room, sifting-bad, sifting-on, sifting-end}
+use Rattle.keytable.proofs.SiftingLaws.{Sifting, sifting-start, sifting-few, sifting-room, sifting-bad, sifting-on, sifting-end}
 use borrow.Author.Needs.{needs}
 use Rattle.keytable.proofs.loading.read_delegations.Statement.{statement}
 use Rattle.keytable.proofs.loading.read_delegations.Tie as tie
@@ -21,38 +20,32 @@ abbrev μ-loop : tie.MeasureT-loop
 loop-holds : tie.Need-loop-holds Inv-loop μ-loop
 loop-holds c = sifting-start _ _ _ _ _ _ _ (c .before .before .pre .1)
 
-sub-read-key-delegation : tie.Need-sub-read-key-delegation Inv-loop μ-loop
-sub-read-key-delegation c = omega (arith, c .before .loop .inv .reading .within)
+after-delegation-requires : tie.Need-after-delegation-requires Inv-loop μ-loop
+after-delegation-requires c κs = (c .before .loop .inv .reading .within, c .before .before .before .before .pre .2)
 
-part-read-key-delegation-start : tie.Need-part-read-key-delegation-start Inv-loop μ-loop
-part-read-key-delegation-start c = omega (arith, c .before .loop .inv .reading .within)
+enum-known-after : tie.Need-enum-known-after Inv-loop μ-loop
+enum-known-after c = search needs
 
-part-read-key-delegation-end : tie.Need-part-read-key-delegation-end Inv-loop μ-loop
-part-read-key-delegation-end c = search needs
+enum-told : tie.Need-enum-told Inv-loop μ-loop
+enum-told c = search needs
 
-read-key-delegation-requires : tie.Need-read-key-delegation-requires Inv-loop μ-loop
-read-key-delegation-requires c κs = search needs
+same-length : tie.Need-same-length Inv-loop μ-loop
+same-length c = c .before .before .before .before .loop .inv .size
 
-enum-known-delegation : tie.Need-enum-known-delegation Inv-loop μ-loop
-enum-known-delegation c = search needs
+returns : tie.Need-returns Inv-loop μ-loop
+returns c = sifting-bad _ _ _ _ _ _ _ _ _ _ _ (c .before .before .before .before .loop .inv) (c .before .before .before .before .before .before .before .pre .0) (c .before .before .before .loop-test .taken) _ (c .before .before .after-delegation .ensures) _ _ (c .enum-told .given .1)
 
 cast-places : tie.Need-cast-places Inv-loop μ-loop
-cast-places c = omega (arith, c .before .before .before .before .before .before .loop .inv .reading .within, c .before .before .before .before .before .before .before .before .before .pre .2)
+cast-places c = omega (arith, c .before .before .before .before .before .loop .inv .reading .within, c .before .before .before .before .before .before .before .before .pre .2)
 
 mul-places : tie.Need-mul-places Inv-loop μ-loop
-mul-places c = omega (arith, sifting-room _ _ _ _ _ _ _ _ _ _ _ (c .before .before .before .before .before .before .loop .inv) (c .before .before .before .before .before .before .before .before .before .pre .0) (c .before .before .before .before .before .loop-test .taken), c .before .before .before .before .before .before .loop .inv .size, c .before .before .before .before .before .before .before .before .before .good .1 .1 .1 .1 .0)
+mul-places c = omega (arith, sifting-room _ _ _ _ _ _ _ _ _ _ _ (c .before .before .before .before .before .loop .inv) (c .before .before .before .before .before .before .before .before .pre .0) (c .before .before .before .before .loop-test .taken), c .before .before .before .before .before .loop .inv .size, c .before .before .before .before .before .before .before .before .good .1 .1 .1 .1 .0)
 
 slice-write-places : tie.Need-slice-write-places Inv-loop μ-loop
-slice-write-places c = sifting-room _ _ _ _ _ _ _ _ _ _ _ (c .before .before .before .before .before .before .loop .inv) (c .before .before .before .before .before .before .before .before .before .pre .0) (c .before .before .before .before .before .loop-test .taken)
-
-one-if-asked-requires : tie.Need-one-if-asked-requires Inv-loop μ-loop
-one-if-asked-requires c κs = search needs
+slice-write-places c = sifting-room _ _ _ _ _ _ _ _ _ _ _ (c .before .before .before .before .before .loop .inv) (c .before .before .before .before .before .before .before .before .pre .0) (c .before .before .before .before .loop-test .taken)
 
 add-n : tie.Need-add-n Inv-loop μ-loop
-add-n c = omega (arith, sifting-few _ _ _ _ _ _ _ _ _ _ _ (sifting-on _ _ _ _ _ _ _ _ _ _ _ (c .before .before .before .before .before .before .before .loop .inv) (c .before .before .before .before .before .before .before .before .before .before .pre .0) (c .before .before .before .before .before .before .loop-test .taken) _ _ _ (delegation-got _ _ _ _ (c .before .before .before .before .read-key-delegation .ensures) (c .before .before .delegation .given .1)) (c .one-if-asked .ensures)), c .before .before .before .before .before .before .loop-test .taken)
-
-add-at : tie.Need-add-at Inv-loop μ-loop
-add-at c = omega (arith, sifting-fits _ _ _ _ _ _ _ _ _ _ _ (c .before .before .before .before .before .before .before .loop .inv) _ _ (delegation-got _ _ _ _ (c .before .before .before .before .read-key-delegation .ensures) (c .before .before .delegation .given .1)), c .before .before .before .before .before .before .before .before .before .before .pre .2)
+add-n c = omega (arith, sifting-few _ _ _ _ _ _ _ _ _ _ _ (sifting-on _ _ _ _ _ _ _ _ _ _ _ (c .before .before .before .before .before .loop .inv) (c .before .before .before .before .before .before .before .before .pre .0) (c .before .before .before .before .loop-test .taken) _ (c .before .before .before .after-delegation .ensures) _ (c .before .after .given .1)), c .before .before .before .before .loop-test .taken)
 
 add-i : tie.Need-add-i Inv-loop μ-loop
 add-i c = search needs
@@ -61,19 +54,7 @@ loop-less : tie.Need-loop-less Inv-loop μ-loop
 loop-less c = search needs
 
 loop-again : tie.Need-loop-again Inv-loop μ-loop
-loop-again c = sifting-on _ _ _ _ _ _ _ _ _ _ _ (c .before .before .before .before .before .before .before .loop .inv) (c .before .before .before .before .before .before .before .before .before .before .pre .0) (c .before .before .before .before .before .before .loop-test .taken) _ _ _ (delegation-got _ _ _ _ (c .before .before .before .before .read-key-delegation .ensures) (c .before .before .delegation .given .1)) (c .one-if-asked .ensures)
-
-enum-known-fault : tie.Need-enum-known-fault Inv-loop μ-loop
-enum-known-fault c = search needs
-
-moved-requires : tie.Need-moved-requires Inv-loop μ-loop
-moved-requires c κs = omega (arith, sifting-moves _ _ _ _ _ _ _ _ _ _ _ (c .before .before .before .before .before .before .loop .inv) _ (delegation-bad _ _ _ (c .before .before .before .read-key-delegation .ensures) (c .before .fault .given .1)), c .before .before .before .before .before .before .before .before .before .pre .2)
-
-same-length : tie.Need-same-length Inv-loop μ-loop
-same-length c = c .before .before .before .before .before .before .before .loop .inv .size
-
-returns : tie.Need-returns Inv-loop μ-loop
-returns c = sifting-bad _ _ _ _ _ _ _ _ _ _ _ (c .before .before .before .before .before .before .before .loop .inv) (c .before .before .before .before .before .before .before .before .before .before .pre .0) (c .before .before .before .before .before .before .loop-test .taken) _ _ _ (delegation-bad _ _ _ (c .before .before .before .before .read-key-delegation .ensures) (c .before .before .fault .given .1)) (c .moved .ensures)
+loop-again c = sifting-on _ _ _ _ _ _ _ _ _ _ _ (c .before .before .before .before .before .loop .inv) (c .before .before .before .before .before .before .before .before .pre .0) (c .before .before .before .before .loop-test .taken) _ (c .before .before .before .after-delegation .ensures) _ (c .before .after .given .1)
 
 same-length-2 : tie.Need-same-length-2 Inv-loop μ-loop
 same-length-2 c = c .before .loop .inv .size
@@ -88,23 +69,17 @@ read-delegations-spec =
     Inv-loop
     μ-loop
     loop-holds
-    sub-read-key-delegation
-    part-read-key-delegation-start
-    part-read-key-delegation-end
-    read-key-delegation-requires
-    enum-known-delegation
+    after-delegation-requires
+    enum-known-after
+    enum-told
+    same-length
+    returns
     cast-places
     mul-places
     slice-write-places
-    one-if-asked-requires
     add-n
-    add-at
     add-i
     loop-less
     loop-again
-    enum-known-fault
-    moved-requires
-    same-length
-    returns
     same-length-2
     returns-2)
