@@ -1,5 +1,5 @@
-//! The numbers of a table alone, decoded by a plain loop: what reading could
-//! cost at the least.
+//! The numbers of a table alone, decoded by a plain loop: what reading is held
+//! against.
 
 /// The sum of all numbers, which stand one behind the other; none where the
 /// bytes hold anything else.
