@@ -29,9 +29,6 @@ use Rattle.records.proofs.ParsedLaws.{got-then, both-got, mapped-got}
 pub passes-none : {A : Type 0} (P : Reader A) (s : List ℕ) (at next : ℕ) → next ≡ 0 → Passes P s at next
 passes-none P s at next e = record { good = λ h. absurd (omega arith) }
 
-pub field-none : (P : Reader ℕ) (s : List ℕ) (at : ℕ) (r : Glance) → r ≡ record { value = 0; next = 0 } → PassesField P s at r
-field-none P s at r e = rw e (record { good = λ h. absurd (omega arith) })
-
 pub binding-none : (spaces : ℕ) (s : List ℕ) (r : Glance) → r ≡ record { value = 0; next = 0 } → PassesBinding spaces s r
 binding-none spaces s r e = rw e (record { good = λ h. absurd (omega arith) })
 
@@ -50,9 +47,6 @@ module _ (low high : ℕ) (s : List ℕ) (at : ℕ) (r : Glance) (g : Glances lo
 
   pub field-seen : (lo hi : ℕ) → lo ≤ low → high ≤ hi → PassesField (field lo hi) s at r
   field-seen lo hi l u = record { good = λ h. seen-field lo hi h (omega (arith, g .least h)) (omega (arith, g .most)) }
-
-  pub base-seen : (r .value ≡ 0 → ⊥) → high ≤ mostBase → PassesField (field 1 mostBase) s at r
-  base-seen z u = record { good = λ h. seen-field 1 mostBase h (omega arith) (omega (arith, g .most)) }
 
   pub space-is : (spaces : ℕ) → r .value < spaces → 0 < r .next → spaceField spaces s at ≡ got (record { 0 = r .value }) (r .next)
   unfolding spaceField

@@ -14,7 +14,6 @@ use rules::Space;
 use wire::Number;
 use wire::glancing::Glance;
 use wire::glancing::glance_at;
-use wire::glancing::nothing;
 
 pub const MOST_KEY: u32 = 4294967295;
 
@@ -100,11 +99,7 @@ pub fn glance_object(s: &[u8], at: usize) -> Glance
 pub fn glance_base(s: &[u8], at: usize) -> Glance
     ensures { λ r. ⌜ PassesField (field 1 mostBase) (now (s .entry)) at r ⌝ }
 {
-    let name = glance_at(s, at, 0, 2, 3);
-    if name.value == 0 {
-        return nothing();
-    }
-    name
+    glance_at(s, at, 1, 2, 3)
 }
 
 // A right, seen at a glance.

@@ -19,6 +19,7 @@ use wire::glancing::Glance;
 use wire::glancing::glance_at;
 use wire::glancing::nothing;
 
+// A key.
 fn pass_key(s: &[u8], at: usize) -> usize
     ensures { λ r. ⌜ Passes keyField (now (s .entry)) at r ⌝ }
 {
@@ -26,6 +27,7 @@ fn pass_key(s: &[u8], at: usize) -> usize
     key.next
 }
 
+// A space number below the count of spaces.
 fn pass_space(s: &[u8], at: usize, spaces: usize) -> usize
     ensures { λ r. ⌜ Passes (spaceField spaces) (now (s .entry)) at r ⌝ }
 {
@@ -36,6 +38,7 @@ fn pass_space(s: &[u8], at: usize, spaces: usize) -> usize
     space.next
 }
 
+// A depth.
 fn pass_depth(s: &[u8], at: usize) -> usize
     ensures { λ r. ⌜ Passes depthField (now (s .entry)) at r ⌝ }
 {
@@ -73,6 +76,7 @@ fn pass_names(s: &[u8], from: usize, count: u32) -> usize
     at
 }
 
+// A path: its length, and so many base names.
 fn pass_path(s: &[u8], at: usize) -> usize
     ensures { λ r. ⌜ Passes pathField (now (s .entry)) at r ⌝ }
 {
@@ -95,6 +99,7 @@ fn pass_name(s: &[u8], at: usize, spaces: usize) -> usize
     pass_path(s, middle)
 }
 
+// A target: a key or a name.
 fn pass_target(s: &[u8], at: usize, spaces: usize) -> usize
     ensures { λ r. ⌜ Passes (targetField spaces) (now (s .entry)) at r ⌝ }
 {
