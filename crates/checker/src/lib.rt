@@ -1,4 +1,5 @@
 // The checker: whether a derivation holds in the table that is shown, and at which depth. It writes nothing.
+#![tactic(auto)]
 ghost use Rattle.checker.specs.Promise.{Checks};
 
 use crate::holding::check_good;
@@ -10,7 +11,7 @@ pub mod holding;
 pub mod listing;
 pub mod walking;
 
-#[derive(Drop)]
+#[derive(Clone, Copy)]
 pub enum Checked {
     Accepted(Depth),
     BadTable(Fault),

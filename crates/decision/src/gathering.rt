@@ -12,7 +12,7 @@ use records::fields::Use;
 use rules::{Key, Space};
 use table::finding::{SpaceFound, find_space};
 
-#[derive(Drop)]
+#[derive(Clone, Copy)]
 pub enum NodeFound {
     Node(usize),
     Nobody,

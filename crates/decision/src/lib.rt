@@ -1,4 +1,5 @@
 // The decision: whether a request is granted, at the greatest depth, with a derivation.
+#![tactic(auto)]
 ghost use Rattle.decision.specs.Promise.{Decides};
 
 use crate::deciding::decide_good;
@@ -14,7 +15,7 @@ pub mod showing;
 pub mod writing;
 
 // Granted comes with the greatest depth and the derivation's length.
-#[derive(Drop)]
+#[derive(Clone, Copy)]
 pub enum Decided {
     Granted(Depth, usize),
     BadTable(Fault),

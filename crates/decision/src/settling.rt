@@ -13,7 +13,7 @@ use records::fields::Use;
 use rules::{Key, Space};
 
 // The code of the greatest depth, 0 for none; else the number of the chain's access record, and where its delegations begin.
-#[derive(Drop)]
+#[derive(Clone, Copy)]
 pub struct Settled {
     pub code: u8,
     pub access: usize,

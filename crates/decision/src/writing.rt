@@ -12,7 +12,7 @@ use records::derivations::write_derivation;
 
 pub const MOST_DERIVATION: usize = 512;
 
-#[derive(Drop)]
+#[derive(Clone, Copy)]
 pub enum Written {
     Bytes(usize),
     Overrun,

@@ -24,7 +24,7 @@ pub const OVERRUN: u32 = 13;
 
 // What an answer does not carry is 0.
 #[repr(C)]
-#[derive(Drop)]
+#[derive(Clone, Copy)]
 pub struct Answer {
     pub number: u32,
     pub offset: u32,

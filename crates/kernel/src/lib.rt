@@ -1,4 +1,5 @@
 // The kernel's interface for hosts: four functions that C can call, each thin over the part that it names. See include/rustamgheb.h.
+#![tactic(auto)]
 ghost use Rattle.kernel.specs.Promises.{TellsDecision, TellsCheck, TellsTranslation, TellsKeyDecision};
 
 use crate::answers::{Answer, of_checked, of_decided, of_key_answer, of_translated};

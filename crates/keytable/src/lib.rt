@@ -1,4 +1,5 @@
 // Key tables: reading them, and deciding over them.
+#![tactic(auto)]
 ghost use Rattle.std.specs.Prelude.{◌≡◌, ◌≤◌, length};
 ghost use Rattle.rules.specs.Ranges.{most_accesses, most_delegations};
 ghost use Rattle.records.specs.Parsed.{bad};
@@ -26,21 +27,21 @@ pub mod nodes;
 pub const MOST_KEY_TABLE: usize = 16384;
 
 // How many records of each kind there are, and where the first of each begins.
-#[derive(Drop)]
+#[derive(Clone, Copy)]
 pub struct KeySections {
     pub accesses: Section,
     pub delegations: Section,
 }
 
 // A key table's sections, or its fault.
-#[derive(Drop)]
+#[derive(Clone, Copy)]
 pub enum KeyLoaded {
     Good(KeySections),
     Bad(Fault),
 }
 
 // What was read of a key table, and how many places of access records and of delegations are kept.
-#[derive(Drop)]
+#[derive(Clone, Copy)]
 pub struct KeyKept {
     pub loaded: KeyLoaded,
     pub accesses: usize,
@@ -131,7 +132,7 @@ pub fn load_key_table(table: &[u8]) -> KeyLoaded
 }
 
 // What is answered to a key request.
-#[derive(Drop)]
+#[derive(Clone, Copy)]
 pub enum KeyAnswer {
     Fault(Fault),
     Request,

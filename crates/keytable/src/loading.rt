@@ -20,14 +20,14 @@ use rules::Key;
 use table::loading::{After, MOST_ACCESSES, MOST_DELEGATIONS, Section, SectionRead, after_fault};
 
 // The place after records that were read, and how many places are kept.
-#[derive(Drop)]
+#[derive(Clone, Copy)]
 pub struct AfterKept {
     pub after: After,
     pub kept: usize,
 }
 
 // A section, and how many places are kept.
-#[derive(Drop)]
+#[derive(Clone, Copy)]
 pub struct SectionKept {
     pub read: SectionRead,
     pub kept: usize,

@@ -5,7 +5,7 @@ ghost use Rattle.keytable.specs.Nodes.{slot, slots, Nodes, HasNode, FindsNode, G
 use rules::Key;
 
 // The node of a key, or none.
-#[derive(Drop)]
+#[derive(Clone, Copy)]
 pub enum NodeFound {
     Node(usize),
     Nobody,

@@ -1,4 +1,5 @@
 // Which records are for a request, and to which keys: an access record or a delegation by its number, with its names followed by a sheet.
+#![tactic(auto)]
 ghost use Rattle.std.specs.Prelude.{◌<◌, ◌≤◌, length};
 ghost use Rattle.table.specs.ReadTable.{table_at};
 ghost use Rattle.matching.specs.Matching.{Held, Gives, Hands, GivesTo, HandsOn, asked_of};
@@ -10,14 +11,14 @@ use rules::{Depth, Key, Space};
 use sheet::following::{Followed, follow_name};
 
 // The key that the access record's name leads to, with the depth, if the record is for the request.
-#[derive(Drop)]
+#[derive(Clone, Copy)]
 pub enum Given {
     To(Key, Depth),
     Nothing,
 }
 
 // The writer of the delegation and the key that its delegatee's name leads to, with the depth, if the delegation is for the request.
-#[derive(Drop)]
+#[derive(Clone, Copy)]
 pub enum Handed {
     On(Space, Key, Depth),
     Nothing,

@@ -1,4 +1,5 @@
 // The greatest depths, by rounds over edges between nodes that are numbers.
+#![tactic(auto)]
 ghost use Rattle.std.specs.Prelude.{◌≡◌, ◌<◌, ◌≤◌, length, drop};
 ghost use Rattle.rules.specs.Depths.{top, step_code};
 ghost use Rattle.rules.specs.Sheets.{entry};
@@ -68,7 +69,7 @@ pub fn reach(edges: &[u32], best: &mut [u8], by: &mut [u16])
 }
 
 // Where a trail ends: the number that the last node was given by, and where in the chain the first edge's number stands.
-#[derive(Drop)]
+#[derive(Clone, Copy)]
 pub struct Trail {
     pub access: usize,
     pub first: usize,

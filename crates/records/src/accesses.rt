@@ -10,7 +10,7 @@ use crate::fields::{
 use crate::paths::{Path, PathRead, path_fault, read_path};
 use rules::{Depth, Space};
 
-#[derive(Drop)]
+#[derive(Clone, Copy)]
 pub struct Access {
     pub owner: Space,
     pub wanted: Use,
@@ -18,7 +18,7 @@ pub struct Access {
     pub depth: Depth,
 }
 
-#[derive(Drop)]
+#[derive(Clone, Copy)]
 pub enum AccessRead {
     Access(Access, usize),
     Fault(Fault),

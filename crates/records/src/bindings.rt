@@ -11,14 +11,14 @@ use crate::rows::is_among;
 use crate::targets::{Target, TargetRead, read_target, target_fault};
 use rules::Space;
 
-#[derive(Drop)]
+#[derive(Clone, Copy)]
 pub struct Binding {
     pub space: Space,
     pub base: u32,
     pub target: Target,
 }
 
-#[derive(Drop)]
+#[derive(Clone, Copy)]
 pub enum BindingRead {
     Binding(Binding, usize),
     Fault(Fault),

@@ -10,7 +10,7 @@ use crate::fields::{
 use crate::paths::{Path, PathRead, path_fault, read_path};
 use rules::{Depth, Space};
 
-#[derive(Drop)]
+#[derive(Clone, Copy)]
 pub struct Delegation {
     pub writer: Space,
     pub owner: Path,
@@ -19,7 +19,7 @@ pub struct Delegation {
     pub depth: Depth,
 }
 
-#[derive(Drop)]
+#[derive(Clone, Copy)]
 pub enum DelegationRead {
     Delegation(Delegation, usize),
     Fault(Fault),

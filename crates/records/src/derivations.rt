@@ -15,7 +15,7 @@ pub const MOST_DERIVATION: usize = 512;
 pub const MOST_CHAIN: u32 = 16;
 
 // How many bindings it lists and where their numbers begin; how many delegations its chain has and where the number of its access record stands.
-#[derive(Drop)]
+#[derive(Clone, Copy)]
 pub struct Parts {
     pub bindings: usize,
     pub first: usize,
@@ -23,14 +23,14 @@ pub struct Parts {
     pub chain: usize,
 }
 
-#[derive(Drop)]
+#[derive(Clone, Copy)]
 pub enum DerivationRead {
     Derivation(Parts),
     Not,
 }
 
 // The place after numbers that were read, or none.
-#[derive(Drop)]
+#[derive(Clone, Copy)]
 pub enum Numbers {
     After(usize),
     Not,

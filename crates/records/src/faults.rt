@@ -4,7 +4,7 @@ ghost use Rattle.records.specs.Parsed.{moved_fault};
 ghost use Rattle.records.specs.declared.faults.Kind.{Kind};
 
 // The faults of the reviewer's list that a table can have.
-#[derive(Drop)]
+#[derive(Clone, Copy)]
 pub enum Kind {
     Long,
     Cut,
@@ -16,12 +16,12 @@ pub enum Kind {
 }
 
 // Where a fault is: the offset of its number's first byte.
-#[derive(Drop)]
+#[derive(Clone, Copy)]
 pub struct Place {
     pub offset: usize,
 }
 
-#[derive(Drop)]
+#[derive(Clone, Copy)]
 pub struct Fault {
     pub kind: Kind,
     pub place: Place,

@@ -21,38 +21,38 @@ pub const MOST_RIGHT: u32 = 32;
 pub const MOST_NAMES: u32 = 4;
 
 // A number, with the place after it.
-#[derive(Drop)]
+#[derive(Clone, Copy)]
 pub enum Field {
     Value(u32, usize),
     Fault(Fault),
 }
 
-#[derive(Drop)]
+#[derive(Clone, Copy)]
 pub enum SpaceRead {
     Space(Space, usize),
     Fault(Fault),
 }
 
-#[derive(Drop)]
+#[derive(Clone, Copy)]
 pub enum KeyRead {
     Key(Key, usize),
     Fault(Fault),
 }
 
-#[derive(Drop)]
+#[derive(Clone, Copy)]
 pub enum DepthRead {
     Depth(Depth, usize),
     Fault(Fault),
 }
 
 // What a record is for: an object and a right.
-#[derive(Drop)]
+#[derive(Clone, Copy)]
 pub struct Use {
     pub object: u32,
     pub right: u32,
 }
 
-#[derive(Drop)]
+#[derive(Clone, Copy)]
 pub enum UseRead {
     Use(Use, usize),
     Fault(Fault),

@@ -10,7 +10,7 @@ use crate::fields::{
 };
 use rules::{Depth, Key};
 
-#[derive(Drop)]
+#[derive(Clone, Copy)]
 pub struct KeyAccess {
     pub owner: Key,
     pub wanted: Use,
@@ -18,13 +18,13 @@ pub struct KeyAccess {
     pub depth: Depth,
 }
 
-#[derive(Drop)]
+#[derive(Clone, Copy)]
 pub enum KeyAccessRead {
     KeyAccess(KeyAccess, usize),
     Fault(Fault),
 }
 
-#[derive(Drop)]
+#[derive(Clone, Copy)]
 pub struct KeyDelegation {
     pub writer: Key,
     pub owner: Key,
@@ -33,7 +33,7 @@ pub struct KeyDelegation {
     pub depth: Depth,
 }
 
-#[derive(Drop)]
+#[derive(Clone, Copy)]
 pub enum KeyDelegationRead {
     KeyDelegation(KeyDelegation, usize),
     Fault(Fault),

@@ -6,7 +6,7 @@ use crate::faults::{Fault, Kind, fault_at};
 use crate::fields::{Field, field_fault, read_base, read_length};
 
 // The base names; those from `length` on are 0.
-#[derive(Drop)]
+#[derive(Clone, Copy)]
 pub struct Path {
     pub length: usize,
     pub first: u32,
@@ -15,7 +15,7 @@ pub struct Path {
     pub fourth: u32,
 }
 
-#[derive(Drop)]
+#[derive(Clone, Copy)]
 pub enum PathRead {
     Path(Path, usize),
     Fault(Fault),

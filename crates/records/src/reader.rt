@@ -4,7 +4,7 @@ ghost use Rattle.records.specs.Fields.{any_number, field_read};
 
 use crate::fields::{Field, read_number};
 
-#[derive(Drop)]
+#[derive(Clone, Copy)]
 pub struct Reader<'a> {
     pub table: &'a [u8],
     pub at: usize,

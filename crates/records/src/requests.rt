@@ -8,27 +8,27 @@ use rules::{Key, Space};
 
 pub const MOST_REQUEST: usize = 64;
 
-#[derive(Drop)]
+#[derive(Clone, Copy)]
 pub struct Request {
     pub subject: Target,
     pub owner: Space,
     pub wanted: Use,
 }
 
-#[derive(Drop)]
+#[derive(Clone, Copy)]
 pub enum RequestRead {
     Request(Request),
     Not,
 }
 
-#[derive(Drop)]
+#[derive(Clone, Copy)]
 pub struct KeyRequest {
     pub subject: Key,
     pub owner: Key,
     pub wanted: Use,
 }
 
-#[derive(Drop)]
+#[derive(Clone, Copy)]
 pub enum KeyRequestRead {
     KeyRequest(KeyRequest),
     Not,

@@ -10,13 +10,13 @@ use crate::fields::{
 use crate::paths::{Path, PathRead, path_fault, read_path};
 use rules::{Key, Space};
 
-#[derive(Drop)]
+#[derive(Clone, Copy)]
 pub enum Target {
     Key(Key),
     Name(Space, Path),
 }
 
-#[derive(Drop)]
+#[derive(Clone, Copy)]
 pub enum TargetRead {
     Target(Target, usize),
     Fault(Fault),

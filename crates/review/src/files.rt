@@ -6,7 +6,7 @@ use crate::printing::say;
 use libc::STDOUT_FILENO;
 
 // What was read stands at the start of a buffer: its first bytes, or nothing.
-#[derive(Drop)]
+#[derive(Clone, Copy)]
 pub enum Part {
     Whole(usize),
     Broken,

@@ -11,7 +11,7 @@ use sheet::filling::fill;
 use table::{Loaded, load_index};
 
 // What is to be told: a derivation for a request, or all records.
-#[derive(Drop)]
+#[derive(Clone, Copy)]
 pub enum Task {
     Explain,
     Show,

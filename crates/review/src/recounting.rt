@@ -14,7 +14,7 @@ use records::fields::Use;
 use rules::Depth;
 
 // The depth of a record that was read.
-#[derive(Drop)]
+#[derive(Clone, Copy)]
 pub enum Recounted {
     Depth(Depth),
     Nothing,

@@ -4,14 +4,14 @@ ghost use Rattle.review.specs.Writing.{PutFits};
 use crate::words::{Word, is_word, number_word};
 
 // The place after what was written, unless a word said no number or there is no more room.
-#[derive(Drop)]
+#[derive(Clone, Copy)]
 pub enum Put {
     Next(usize),
     Not,
 }
 
 // What is asked: a request to a table, or a key request to a key table.
-#[derive(Drop)]
+#[derive(Clone, Copy)]
 pub enum Form {
     Names,
     Keys,

@@ -1,21 +1,23 @@
 // The words of the rules that code holds: keys, spaces and depths, each a type of its own.
+#![tactic(auto)]
+
 ghost use Rattle.std.specs.Prelude.{◌≡◌, ◌≤◌};
 ghost use Rattle.rules.specs.Depths.{Step, made};
 
 // A key, which stands for one party wherever it is met.
-#[derive(Drop)]
+#[derive(Clone, Copy)]
 pub struct Key(pub u32);
 
 // A space, by its number in the table.
-#[derive(Drop)]
+#[derive(Clone, Copy)]
 pub struct Space(pub usize);
 
 // How many times access may be handed on.
-#[derive(Drop)]
+#[derive(Clone, Copy)]
 pub struct Depth(u32);
 
 // What becomes of a number that is to be a depth.
-#[derive(Drop)]
+#[derive(Clone, Copy)]
 pub enum Made {
     Good(Depth),
     TooDeep,

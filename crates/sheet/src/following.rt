@@ -13,14 +13,14 @@ use records::targets::Target;
 use rules::{Key, Space};
 use table::finding::{BindingFound, SpaceFound, find_binding, find_space};
 
-#[derive(Drop)]
+#[derive(Clone, Copy)]
 pub enum Followed {
     Key(Key),
     Nothing,
 }
 
 // A key; or the number of the binding whose entry, still 0, stopped it; or nothing, however the sheet is filled further.
-#[derive(Drop)]
+#[derive(Clone, Copy)]
 pub enum Walked {
     Key(Key),
     Waits(usize),

@@ -1,4 +1,5 @@
 // specimen > LINES: what the kernel answers to the rows of the specimen table: P1 to P10, then those that are only run.
+#![tactic(auto)]
 use crate::tables::specimen_table;
 
 mod limits;

@@ -6,13 +6,13 @@ use records::bindings::pack;
 use records::rows::find_first;
 use rules::{Key, Space};
 
-#[derive(Drop)]
+#[derive(Clone, Copy)]
 pub enum SpaceFound {
     Space(Space),
     None,
 }
 
-#[derive(Drop)]
+#[derive(Clone, Copy)]
 pub enum BindingFound {
     Binding(usize),
     None,

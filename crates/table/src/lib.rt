@@ -1,4 +1,5 @@
 // Whole tables: every fault in its order, where the sections begin, and finding a space by its key and a binding by its name.
+#![tactic(auto)]
 ghost use Rattle.std.specs.Prelude.{◌≡◌, ◌≤◌, length};
 ghost use Rattle.rules.specs.Ranges.{most_spaces, most_bindings, most_accesses, most_delegations};
 ghost use Rattle.table.specs.ReadTable.{read_table, loaded_of};
@@ -17,7 +18,7 @@ pub mod loading;
 pub const MOST_TABLE: usize = 32768;
 
 // How many records of each kind there are, and where the first of each begins.
-#[derive(Drop)]
+#[derive(Clone, Copy)]
 pub struct Sections {
     pub spaces: Section,
     pub bindings: Section,
@@ -25,7 +26,7 @@ pub struct Sections {
     pub delegations: Section,
 }
 
-#[derive(Drop)]
+#[derive(Clone, Copy)]
 pub enum Loaded {
     Good(Sections),
     Bad(Fault),

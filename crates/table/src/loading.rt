@@ -29,28 +29,28 @@ pub const MOST_ACCESSES: u32 = 256;
 pub const MOST_DELEGATIONS: u32 = 512;
 
 // How many records there are, and where the first begins.
-#[derive(Drop)]
+#[derive(Clone, Copy)]
 pub struct Section {
     pub count: usize,
     pub first: usize,
 }
 
 // A section, with the place after it.
-#[derive(Drop)]
+#[derive(Clone, Copy)]
 pub enum SectionRead {
     Section(Section, usize),
     Fault(Fault),
 }
 
 // The place after records that were read.
-#[derive(Drop)]
+#[derive(Clone, Copy)]
 pub enum After {
     At(usize),
     Fault(Fault),
 }
 
 // A name that is bound, packed, and the place after its binding.
-#[derive(Drop)]
+#[derive(Clone, Copy)]
 pub enum Bound {
     Name(u32, usize),
     Fault(Fault),

@@ -13,7 +13,7 @@ use rules::Key;
 use sheet::following::{Followed, follow_name};
 
 // The keys of an access record, unless its path has no meaning.
-#[derive(Drop)]
+#[derive(Clone, Copy)]
 pub enum AccessKeys {
     Keys(KeyAccess),
     Omitted,

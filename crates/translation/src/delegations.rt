@@ -13,7 +13,7 @@ use rules::Key;
 use sheet::following::{Followed, follow_name};
 
 // The keys of a delegation, unless one of its paths has no meaning.
-#[derive(Drop)]
+#[derive(Clone, Copy)]
 pub enum DelegationKeys {
     Keys(KeyDelegation),
     Omitted,

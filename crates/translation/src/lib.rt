@@ -1,4 +1,5 @@
 // The translation: a table with every name replaced by the key that it means.
+#![tactic(auto)]
 ghost use Rattle.std.specs.Prelude.{◌≡◌, ◌≤◌, length};
 ghost use Rattle.wire.specs.Placed.{placed};
 ghost use Rattle.table.specs.ReadTable.{table_at};
@@ -20,7 +21,7 @@ pub mod sections;
 
 pub const MOST_KEY_TABLE: usize = 16384;
 
-#[derive(Drop)]
+#[derive(Clone, Copy)]
 pub enum Translated {
     Done(usize),
     BadTable(Fault),

@@ -4,7 +4,7 @@ ghost use Rattle.wire.specs.Number.{bytes_of};
 ghost use Rattle.wire.specs.Placed.{placed};
 
 // How many records are written, and the place after them.
-#[derive(Drop)]
+#[derive(Clone, Copy)]
 pub struct Written {
     pub count: usize,
     pub end: usize,

@@ -11,7 +11,7 @@ use kernel::rustamgheb_decide;
 use libc::STDOUT_FILENO;
 
 // What the line says: the answer, the hash of the whole sheet, and the hash of the bytes behind the derivation.
-#[derive(Drop)]
+#[derive(Clone, Copy)]
 pub struct Row {
     pub answer: Answer,
     pub sheet: u32,

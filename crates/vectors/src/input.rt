@@ -5,7 +5,7 @@ ghost use Rattle.vectors.specs.Parts.{Fits};
 use libc::{STDERR_FILENO, STDIN_FILENO};
 
 // A part that stands whole at the start of a buffer, with its length.
-#[derive(Drop)]
+#[derive(Clone, Copy)]
 pub enum Part {
     Whole(usize),
     Broken,

@@ -7,7 +7,7 @@ use libc::STDOUT_FILENO;
 use records::faults::Fault;
 
 // The numbers of a line.
-#[derive(Drop)]
+#[derive(Clone, Copy)]
 pub enum Line {
     One(u32),
     Two(u32, usize),

@@ -1,4 +1,5 @@
 // vectors < CASES > LINES: the answer line of each case of a case file, in the file's order.
+#![tactic(auto)]
 use crate::input::stopped;
 use crate::parts::{answer_one, answer_two};
 use libc::STDIN_FILENO;

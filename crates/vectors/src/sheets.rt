@@ -10,7 +10,7 @@ use sheet::filling::fill;
 use table::{Loaded, load_index};
 
 // How many entries the sheet of a table has, or the table's fault.
-#[derive(Drop)]
+#[derive(Clone, Copy)]
 pub enum SheetRead {
     Entries(usize),
     Bad(Fault),

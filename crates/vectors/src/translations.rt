@@ -9,7 +9,7 @@ use kernel::answers::Answer;
 use kernel::rustamgheb_translate;
 
 // What the line says: the answer, and the hash of the whole buffer.
-#[derive(Drop)]
+#[derive(Clone, Copy)]
 pub struct Row {
     pub answer: Answer,
     pub buffer: u32,

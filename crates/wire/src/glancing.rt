@@ -4,7 +4,7 @@ ghost use Rattle.std.specs.Prelude.{◌≡◌, ◌+◌, ◌-◌, ◌*◌, ◌^�
 ghost use Rattle.wire.specs.Glancing.{Glances};
 
 // A number, with the place after it; nothing where that is 0.
-#[derive(Drop)]
+#[derive(Clone, Copy)]
 pub struct Glance {
     pub value: u32,
     pub next: usize,

@@ -1,4 +1,5 @@
 // One number, read and written: groups of seven bits, low group first; the top bit is set in every byte but the last.
+#![tactic(auto)]
 ghost use Rattle.std.specs.Prelude.{◌≡◌, ◌+◌, ◌≤◌, ◌<◌, length};
 ghost use Rattle.wire.specs.Number.{most_bytes, number_at, bytes_of};
 ghost use Rattle.wire.specs.Reading.{ended};
@@ -7,7 +8,7 @@ ghost use Rattle.wire.specs.Placed.{placed};
 pub mod glancing;
 
 // What the bytes hold where a number is to begin.
-#[derive(Drop)]
+#[derive(Clone, Copy)]
 pub enum Number {
     // The number, and the bytes it takes.
     Value(u32, usize),
