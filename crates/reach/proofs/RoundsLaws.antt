@@ -121,10 +121,10 @@ module _ (from to depths : List ℕ) (before byBefore : List ℕ) where
   pub round_start : Lent before byBefore → Round from to depths before byBefore 0 before byBefore false
   round_start l = record { size = refl; links = refl; lent = l; risen = λ start r. r; progress = still refl (λ j h. absurd (omega arith)) }
 
-  pub round_on : (best by best' by' : List ℕ) (e : ℕ) (r r' : Bool) → Edges from to depths (length before) → e < length from → Round from to depths before byBefore e best by r
+  pub round_on : (best by : List ℕ) (e : ℕ) (best' by' : List ℕ) (r r' : Bool) → Edges from to depths (length before) → e < length from → Round from to depths before byBefore e best by r
       → Turn from to depths e best by r best' by' r' → Round from to depths before byBefore (e + 1) best' by' r'
   unfolding raised_best raised_by code
-  round_on best by best' by' e r r' edges h w (quiet q) = record { size = w.size; links = w.links; lent = w.lent; risen = w.risen; progress = go r w.progress }
+  round_on best by e best' by' r r' edges h w (quiet q) = record { size = w.size; links = w.links; lent = w.lent; risen = w.risen; progress = go r w.progress }
     where
       go : (r : Bool) → Progress from to depths before e best r → Progress from to depths before (e + 1) best r
       go _ (rose s) = rose s
@@ -133,7 +133,7 @@ module _ (from to depths : List ℕ) (before byBefore : List ℕ) where
           later : (j : ℕ) → j < e + 1 → Dec (j ≡ e) → Quiet from to depths best j
           later j l (yes i) = rw i q
           later j l (no n) = k j (omega arith)
-  round_on best by best' by' e r r' edges h w (raised up) =
+  round_on best by e best' by' r r' edges h w (raised up) =
       let edges' : Edges from to depths (length best) = rw w.size edges in
       record {
         size = length-set best (entry to e) (gives from to depths best e) ∙ w.size;

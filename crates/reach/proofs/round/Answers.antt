@@ -1,0 +1,24 @@
+-- `round` follows the edges one after the other.
+use Prim.Native.Nat.{◌-◌}
+use native.Mathlib.Omega.{arith}
+use Rattle.reach.proofs.EdgesLaws.{froms_length}
+use Rattle.reach.proofs.RoundsLaws.{round_start, round_edges, round_on, round_end}
+use Rattle.reach.proofs.round.Goals as goal
+
+pub loop-e-init : goal.loop-e-init
+loop-e-init c = (round_start _ _ _ _ _ c.requires.1, omega arith)
+
+pub follow_edge-rose-requires : goal.follow_edge-rose-requires
+follow_edge-rose-requires c = (round_edges _ _ _ _ _ _ _ _ _ c.requires.0 c.loop-e.invariant.0, c.loop-e.invariant.0.lent, c.loop-e-test.true)
+
+pub overflow_add-e : goal.overflow_add-e
+overflow_add-e c = omega arith
+
+pub loop-e-smaller : goal.loop-e-smaller
+loop-e-smaller c = omega arith
+
+pub loop-e-preserved : goal.loop-e-preserved
+loop-e-preserved c = (round_on _ _ _ _ _ _ _ _ _ _ _ _ c.requires.0 (omega (arith, c.loop-e-test.true, froms_length c.args.edges.now)) c.loop-e.invariant.0 c.follow_edge-rose.ensures, omega arith)
+
+pub returns : goal.returns
+returns c = round_end _ _ _ _ _ _ _ _ _ c.loop-e.invariant.0 (omega (arith, c.loop-e.invariant.1, froms_length c.args.edges.now)) (omega (arith, c.loop-e-test.false, froms_length c.args.edges.now))

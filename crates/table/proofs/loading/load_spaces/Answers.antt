@@ -1,0 +1,16 @@
+-- `load_spaces` judges the count, then reads so many keys.
+use native.Mathlib.Omega.{arith}
+use Rattle.table.proofs.SectionsLaws.{count_few, section_fails, records_fail, section_found}
+use Rattle.table.proofs.loading.load_spaces.Goals as goal
+
+pub returns-in_default : goal.returns-in_default
+returns-in_default c = let both = section_fails _ _ _ _ _ c.read_field-header.ensures _ _ _ c.in_default.is c.field_fault.ensures in record { read = both.0; kept = both.1 }
+
+pub read_spaces-rest-requires : goal.read_spaces-rest-requires
+read_spaces-rest-requires c = omega (arith, c.requires, count_few _ _ _ _ _ _ c.read_field-header.ensures c.in-Value.is)
+
+pub returns-in_default-rest : goal.returns-in_default-rest
+returns-in_default-rest c = let both = records_fail _ _ _ _ _ c.read_field-header.ensures _ _ _ c.in-Value.is _ c.read_spaces-rest.ensures.read _ _ c.in_default-rest.is c.after_fault.ensures in record { read = both.0; kept = both.1 }
+
+pub returns : goal.returns
+returns c = let both = section_found _ _ _ _ _ c.read_field-header.ensures _ _ _ c.in-Value.is _ c.read_spaces-rest.ensures.read _ c.in-At.is c.read_spaces-rest.ensures.kept in record { read = both.0; kept = both.1 }
