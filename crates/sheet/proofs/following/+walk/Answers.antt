@@ -9,31 +9,31 @@ use Rattle.sheet.proofs.WalksLaws.{at_its_end, not_bound, still_empty, last_name
 use Rattle.sheet.proofs.following.+walk.Goals as goal
 
 pub returns-then-path-eq0 : goal.returns-then-path-eq0
-returns-then-path-eq0 t c = λ n index. at_its_end _ _ _ _ index _ _ c.requires.1.3 c.requires.1.2 c.if-path-eq0.true
+returns-then-path-eq0 t c = λ n index. at_its_end _ _ _ _ index _ _ c.requires.3 c.requires.2 c.if-path-eq0.true
 
 pub offset_bounds-sheet-i : goal.offset_bounds-sheet-i
 offset_bounds-sheet-i t c = omega (arith, (c.type_inv.names 0), binding_below (length c.args.names.now) c.find_binding.result c.in-Binding.i (length c.args.names.now) (le_refl _) c.find_binding.ensures.there c.in-Binding.is)
 
 pub bounds-sheet-i : goal.bounds-sheet-i
-bounds-sheet-i t c = binding_below _ _ _ _ c.requires.1.1 c.find_binding.ensures.there c.in-Binding.is
+bounds-sheet-i t c = binding_below _ _ _ _ c.requires.1 c.find_binding.ensures.there c.in-Binding.is
 
 pub returns-then-key-eq0 : goal.returns-then-key-eq0
-returns-then-key-eq0 t c = λ n index. still_empty _ _ _ _ index _ _ c.requires.1.3 c.if-path-eq0.false _ c.find_binding.ensures.found _ c.in-Binding.is c.if-key-eq0.true
+returns-then-key-eq0 t c = λ n index. still_empty _ _ _ _ index _ _ c.requires.3 c.if-path-eq0.false _ c.find_binding.ensures.found _ c.in-Binding.is c.if-key-eq0.true
 
 pub returns-then-path-eq1 : goal.returns-then-path-eq1
-returns-then-path-eq1 t c = λ n index. last_name _ _ _ _ index _ _ c.requires.1.3 c.if-path-eq0.false _ c.find_binding.ensures.found _ c.in-Binding.is c.if-key-eq0.false c.requires.1.2 c.if-path-eq1.true
+returns-then-path-eq1 t c = λ n index. last_name _ _ _ _ index _ _ c.requires.3 c.if-path-eq0.false _ c.find_binding.ensures.found _ c.in-Binding.is c.if-key-eq0.false c.requires.2 c.if-path-eq1.true
 
 pub rest_of-requires : goal.rest_of-requires
 rest_of-requires t c = omega (arith, c.if-path-eq0.false)
 
 pub walk-requires : goal.walk-requires
-walk-requires t c = (let e = ap (λ (q : Path). q.length) c.rest_of.ensures in omega (arith, e, c.requires.0, c.if-path-eq0.false), (c.requires.1.0, c.requires.1.1, space_below c.args.keys.now _ _ _ _ (le_refl _) c.find_space.ensures c.in-Space.is, rest_fits _ _ c.rest_of.ensures c.requires.1.3))
+walk-requires t c = (let e = ap (λ (q : Path). q.length) c.rest_of.ensures in omega (arith, e, c.decreases, c.if-path-eq0.false), (c.requires.0, c.requires.1, space_below c.args.keys.now _ _ _ _ (le_refl _) c.find_space.ensures c.in-Space.is, rest_fits _ _ c.rest_of.ensures c.requires.3))
 
 pub returns-in-None : goal.returns-in-None
-returns-in-None t c = λ n index. not_bound _ _ _ _ index _ _ c.requires.1.3 c.if-path-eq0.false _ c.find_binding.ensures.found c.in-None.is
+returns-in-None t c = λ n index. not_bound _ _ _ _ index _ _ c.requires.3 c.if-path-eq0.false _ c.find_binding.ensures.found c.in-None.is
 
 pub returns-in-None-find_space : goal.returns-in-None-find_space
-returns-in-None-find_space t c = λ n index. nobody_has _ _ _ _ index _ _ c.requires.1.3 c.if-path-eq0.false _ c.find_binding.ensures.found _ c.in-Binding.is c.if-key-eq0.false c.requires.1.2 _ c.find_space.ensures c.if-path-eq1.false c.in-None-find_space.is
+returns-in-None-find_space t c = λ n index. nobody_has _ _ _ _ index _ _ c.requires.3 c.if-path-eq0.false _ c.find_binding.ensures.found _ c.in-Binding.is c.if-key-eq0.false c.requires.2 _ c.find_space.ensures c.if-path-eq1.false c.in-None-find_space.is
 
 pub returns-in-Space : goal.returns-in-Space
-returns-in-Space t c = λ n index. goes_on _ _ _ _ index _ _ c.requires.1.3 c.if-path-eq0.false _ c.find_binding.ensures.found _ c.in-Binding.is c.if-key-eq0.false c.requires.1.2 _ c.find_space.ensures _ c.in-Space.is _ c.rest_of.ensures _ (c.walk.ensures n index)
+returns-in-Space t c = λ n index. goes_on _ _ _ _ index _ _ c.requires.3 c.if-path-eq0.false _ c.find_binding.ensures.found _ c.in-Binding.is c.if-key-eq0.false c.requires.2 _ c.find_space.ensures _ c.in-Space.is _ c.rest_of.ensures _ (c.walk.ensures n index)
