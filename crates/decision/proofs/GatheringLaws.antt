@@ -40,10 +40,13 @@ module _ (spaces : List Key) (subject : Key) where
   node_below (stranger f) = omega arith
 
   pub one_node_lem : ((S T : Space) (k : Key) → IsSelf spaces S k → IsSelf spaces T k → S ≡ T) → (u v : ℕ) (k : Key) → IsNode spaces subject u k → IsNode spaces subject v k → u ≡ v
-  one_node_lem apart u v k (space {S = S} a) (space {S = T} b) = ap (λ (x : Space). x.0) (apart S T k a b)
-  one_node_lem apart u v k (space {S = S} a) (stranger f) = absurd (f S a)
-  one_node_lem apart u v k (stranger f) (space {S = S} a) = absurd (f S a)
-  one_node_lem apart u v k (stranger f) (stranger h) = refl
+  one_node_lem apart u v k a b = go u v k k a b refl
+    where
+      go : (u v : ℕ) (k m : Key) → IsNode spaces subject u k → IsNode spaces subject v m → k ≡ m → u ≡ v
+      go u v k m (space {S = S} a) (space {S = T} b) e = ap (λ (x : Space). x.0) (apart S T m (subst (IsSelf spaces S) e a) b)
+      go u v k m (space {S = S} a) (stranger f) e = absurd (f S (subst (IsSelf spaces S) e a))
+      go u v k m (stranger f) (space {S = S} a) e = absurd (f S (subst (IsSelf spaces S) (sym e) a))
+      go u v k m (stranger f) (stranger h) e = refl
 
   pub one_key : (v : ℕ) (k m : Key) → IsNode spaces subject v k → IsNode spaces subject v m → k ≡ m
   one_key v k m a b = go v v k m a b refl

@@ -1,0 +1,15 @@
+-- `write_key_table` writes the version and the two sections one behind the other.
+use Rattle.translation.proofs.KeyTableLaws.{version_room, accesses_room, delegations_room, key_table_written}
+use Rattle.translation.proofs.write_key_table.Goals as goal
+
+pub write-at1-requires : goal.write-at1-requires
+write-at1-requires c = version_room c.args.table.now c.args.out.now c.requires.1
+
+pub write_access_section-at2-requires : goal.write_access_section-at2-requires
+write_access_section-at2-requires c = (c.requires.0, accesses_room c.args.table.now c.args.out.now c.requires.1 _ _ c.write-at1.ensures)
+
+pub write_delegation_section-requires : goal.write_delegation_section-requires
+write_delegation_section-requires c = (c.requires.0, delegations_room c.args.table.now c.args.out.now c.requires.1 _ _ c.write-at1.ensures _ _ c.write_access_section-at2.ensures)
+
+pub returns : goal.returns
+returns c = key_table_written c.args.table.now c.args.out.now c.requires.1 _ _ c.write-at1.ensures _ _ c.write_access_section-at2.ensures _ _ c.write_delegation_section.ensures
