@@ -1,4 +1,4 @@
-// The kernel's interface for hosts: four functions that C can call, each thin over the part that it names. See include/rustamgheb.h.
+// The kernel's interface for hosts: four functions, each thin over the part that it names. Crate kernel_c exports them to C.
 #![tactic(auto)]
 ghost use Rattle.kernel.specs.Promises.{TellsDecision, TellsCheck, TellsTranslation, TellsKeyDecision};
 
@@ -11,8 +11,7 @@ use translation::translate;
 pub mod answers;
 
 // Decides the request by the table: fills the sheet, and writes the derivation of a grant.
-#[unsafe(no_mangle)]
-pub extern "C" fn rustamgheb_decide(
+pub fn rustamgheb_decide(
     table: &[u8],
     request: &[u8],
     sheet: &mut [u32],
@@ -24,24 +23,21 @@ pub extern "C" fn rustamgheb_decide(
 }
 
 // Checks the derivation of a request against the table.
-#[unsafe(no_mangle)]
-pub extern "C" fn rustamgheb_check(table: &[u8], request: &[u8], derivation: &[u8]) -> Answer
+pub fn rustamgheb_check(table: &[u8], request: &[u8], derivation: &[u8]) -> Answer
     ensures { TellsCheck table.now request.now derivation.now result }
 {
     of_checked(check(table, request, derivation))
 }
 
 // Translates the table to a key table, which it writes at the start of `out`.
-#[unsafe(no_mangle)]
-pub extern "C" fn rustamgheb_translate(table: &[u8], out: &mut [u8]) -> Answer
+pub fn rustamgheb_translate(table: &[u8], out: &mut [u8]) -> Answer
     ensures { TellsTranslation table.now out.old result out.new }
 {
     of_translated(translate(table, out))
 }
 
 // Decides the key request by the key table.
-#[unsafe(no_mangle)]
-pub extern "C" fn rustamgheb_decide_by_keys(table: &[u8], request: &[u8]) -> Answer
+pub fn rustamgheb_decide_by_keys(table: &[u8], request: &[u8]) -> Answer
     ensures { TellsKeyDecision table.now request.now result }
 {
     of_key_answer(decide_by_keys(table, request))
