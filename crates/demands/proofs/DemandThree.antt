@@ -87,6 +87,15 @@ module _ (Y Z : Setting) (k : Key) (same : (d : ℕ) → Granted Y k d ↔ Grant
     granted = λ x. (λ w. let z : ◌≡◌ {A = ℕ} 0 1 = cc w.1 in absurd (omega arith), λ w. let z : ◌≡◌ {A = ℕ} 0 1 = cc w in absurd (omega arith));
     denied = (λ w. refl, λ w. refl);
   }
+  same_answer (decided.Granted d n) (byKeys.Fault _) _ h = elim h [ ]
+  same_answer (decided.Granted d n) byKeys.Request _ h = elim h [ ]
+  same_answer (decided.BadTable _) b h _ = elim h [ ]
+  same_answer decided.BadRequest b h _ = elim h [ ]
+  same_answer decided.Room b h _ = elim h [ ]
+  same_answer decided.Unnamed b h _ = elim h [ ]
+  same_answer decided.Denied (byKeys.Fault _) _ h = elim h [ ]
+  same_answer decided.Denied byKeys.Request _ h = elim h [ ]
+  same_answer decided.Overrun b h _ = elim h [ ]
 
   same_decision : (a b : Decided) → Outcome Y k a → Outcome Z k b → SameDecision a b
   same_decision (decided.Granted d n) (decided.Granted c m) (yes h) (yes g) =
@@ -102,6 +111,21 @@ module _ (Y Z : Setting) (k : Key) (same : (d : ℕ) → Granted Y k d ↔ Grant
     granted = λ x. (λ w. let z : ◌≡◌ {A = ℕ} 0 1 = cc w.1 in absurd (omega arith), λ w. let z : ◌≡◌ {A = ℕ} 0 1 = cc w.1 in absurd (omega arith));
     denied = (λ w. refl, λ w. refl);
   }
+  same_decision (decided.Granted d n) (decided.BadTable _) _ h = elim h [ ]
+  same_decision (decided.Granted d n) decided.BadRequest _ h = elim h [ ]
+  same_decision (decided.Granted d n) decided.Room _ h = elim h [ ]
+  same_decision (decided.Granted d n) decided.Unnamed _ h = elim h [ ]
+  same_decision (decided.Granted d n) decided.Overrun _ h = elim h [ ]
+  same_decision (decided.BadTable _) b h _ = elim h [ ]
+  same_decision decided.BadRequest b h _ = elim h [ ]
+  same_decision decided.Room b h _ = elim h [ ]
+  same_decision decided.Unnamed b h _ = elim h [ ]
+  same_decision decided.Denied (decided.BadTable _) _ h = elim h [ ]
+  same_decision decided.Denied decided.BadRequest _ h = elim h [ ]
+  same_decision decided.Denied decided.Room _ h = elim h [ ]
+  same_decision decided.Denied decided.Unnamed _ h = elim h [ ]
+  same_decision decided.Denied decided.Overrun _ h = elim h [ ]
+  same_decision decided.Overrun b h _ = elim h [ ]
 
 -- ---- over the bytes
 module _ (table asked keyRequest : List ℕ) (b : Bytes table) (x : Accepted table asked) (q : AsksTheSame table asked keyRequest x) (n : ℕ) (after : List ℕ) (w : Loads table after n) where

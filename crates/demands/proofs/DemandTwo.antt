@@ -53,6 +53,11 @@ exactly table request b x decided.Denied (no (nothing f)) =
       granted = λ e g. absurd (none e g);
       denied = (λ h. none, λ g. refl);
     }
+exactly table request b x (decided.BadTable _) h = elim h [ ]
+exactly table request b x decided.BadRequest h = elim h [ ]
+exactly table request b x decided.Room h = elim h [ ]
+exactly table request b x decided.Unnamed h = elim h [ ]
+exactly table request b x decided.Overrun h = elim h [ ]
 
 -- ---- what was written is accepted
 derivation_short : (s : List ℕ) (l : Laid) → read_derivation s ≡ some l → length s ≤ most_derivation
