@@ -1,5 +1,6 @@
 // The checker: whether a derivation holds in the table that is shown, and at which depth. It writes nothing.
 #![tactic(auto)]
+
 ghost use Rattle.checker.specs.Promise.{Checks};
 
 use crate::holding::check_good;

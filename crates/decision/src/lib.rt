@@ -1,5 +1,6 @@
 // The decision: whether a request is granted, at the greatest depth, with a derivation.
 #![tactic(auto)]
+
 ghost use Rattle.decision.specs.Promise.{Decides};
 
 use crate::deciding::decide_good;

@@ -1,5 +1,6 @@
 // The kernel's interface for hosts: four functions, each thin over the part that it names. Crate kernel_c exports them to C.
 #![tactic(auto)]
+
 ghost use Rattle.kernel.specs.Promises.{TellsDecision, TellsCheck, TellsTranslation, TellsKeyDecision};
 
 use crate::answers::{Answer, of_checked, of_decided, of_key_answer, of_translated};

@@ -1,5 +1,6 @@
 // The kernel's interface for hosts in C: four functions, which answer what those of crate kernel answer. See include/rustamgheb.h.
 #![tactic(auto)]
+
 ghost use Rattle.kernel.specs.Promises.{TellsDecision, TellsCheck, TellsTranslation, TellsKeyDecision};
 
 use kernel::answers::Answer;

@@ -1,5 +1,6 @@
 // Key tables: reading them, and deciding over them.
 #![tactic(auto)]
+
 ghost use Rattle.std.specs.Prelude.{◌≡◌, ◌≤◌, length};
 ghost use Rattle.rules.specs.Ranges.{most_accesses, most_delegations};
 ghost use Rattle.records.specs.Parsed.{bad};

@@ -1,5 +1,6 @@
 // Which records are for a request, and to which keys: an access record or a delegation by its number, with its names followed by a sheet.
 #![tactic(auto)]
+
 ghost use Rattle.std.specs.Prelude.{◌<◌, ◌≤◌, length};
 ghost use Rattle.table.specs.ReadTable.{table_at};
 ghost use Rattle.matching.specs.Matching.{Held, Gives, Hands, GivesTo, HandsOn, asked_of};

@@ -1,5 +1,6 @@
 // The greatest depths, by rounds over edges between nodes that are numbers.
 #![tactic(auto)]
+
 ghost use Rattle.std.specs.Prelude.{◌≡◌, ◌<◌, ◌≤◌, length, drop};
 ghost use Rattle.rules.specs.Depths.{top, step_code};
 ghost use Rattle.rules.specs.Sheets.{entry};

@@ -1,5 +1,6 @@
 // One record of each kind, read from the bytes that begin at it, and written: a module for each.
 #![tactic(auto)]
+
 pub mod accesses;
 pub mod bindings;
 pub mod delegations;

@@ -1,5 +1,6 @@
 // Whole tables: every fault in its order, where the sections begin, and finding a space by its key and a binding by its name.
 #![tactic(auto)]
+
 ghost use Rattle.std.specs.Prelude.{◌≡◌, ◌≤◌, length};
 ghost use Rattle.rules.specs.Ranges.{most_spaces, most_bindings, most_accesses, most_delegations};
 ghost use Rattle.table.specs.ReadTable.{read_table, loaded_of};

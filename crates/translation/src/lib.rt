@@ -1,5 +1,6 @@
 // The translation: a table with every name replaced by the key that it means.
 #![tactic(auto)]
+
 ghost use Rattle.std.specs.Prelude.{◌≡◌, ◌≤◌, length};
 ghost use Rattle.wire.specs.Placed.{placed};
 ghost use Rattle.table.specs.ReadTable.{table_at};

@@ -1,5 +1,6 @@
 // One number, read and written: groups of seven bits, low group first; the top bit is set in every byte but the last.
 #![tactic(auto)]
+
 ghost use Rattle.std.specs.Prelude.{◌≡◌, ◌+◌, ◌≤◌, ◌<◌, length};
 ghost use Rattle.wire.specs.Number.{most_bytes, number_at, bytes_of};
 ghost use Rattle.wire.specs.Reading.{ended};
