@@ -9,7 +9,7 @@ use Rattle.rules.specs.Lists.{NoneTwice}
 use Rattle.rules.specs.Ranges.{GoodNames}
 use Rattle.rules.specs.Tables.{Path, Target, to_name, Asked, Request, Table}
 use Rattle.rules.specs.Names.{Means, TargetMeans}
-use Rattle.rules.specs.Access.{Name, first, setting_by}
+use Rattle.rules.specs.Access.{Name, setting_by}
 use Rattle.rules.specs.Following.{InSheet, TargetLeads}
 use Rattle.rules.specs.Derivations.{Derivation, only, Ordered, Holds}
 use Rattle.rules.specs.Filling.{Filling}

@@ -3,9 +3,9 @@ use mathlib.Core.Path.{◌≡◌, sym, ◌∙◌, ap, subst}
 use mathlib.Core.Logic.{◌⊎◌}
 use mathlib.Core.List.{List}
 use mathlib.Core.Option.{some}
-use Prim.Native.Nat.{ℕ, ◌-◌, ◌<◌}
+use Prim.Native.Nat.{ℕ, ◌<◌}
 use lib.ListN.{length}
-use Rattle.rules.specs.Tables.{Request, Table}
+use Rattle.rules.specs.Tables.{Table}
 use Rattle.wire.specs.Number.{Bytes}
 use Rattle.records.specs.Requests.{read_request, request_read}
 use Rattle.records.specs.Targets.{target_of}

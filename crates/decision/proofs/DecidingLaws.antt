@@ -24,7 +24,6 @@ use Rattle.rules.specs.declared.Made.{Made}
 use Rattle.rules.specs.declared.Made.TheVariants as made
 use Rattle.rules.proofs.SheetsLaws.{exact_leads}
 use Rattle.rules.proofs.AccessLaws.{granted_within}
-use Rattle.wire.specs.Number.{Bytes}
 use Rattle.records.specs.Requests.{read_request}
 use Rattle.records.specs.DerivationBytes.{derivation_bytes, most_derivation, GoodDerivation}
 use Rattle.records.proofs.DerivationForm.{derivation_reads}

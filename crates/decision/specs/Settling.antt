@@ -3,7 +3,7 @@ use Rattle.std.specs.Prelude.{◌≡◌, List, ℕ, suc, ◌≤◌, drop}
 use Rattle.rules.specs.Tables.{Asked, Table}
 use Rattle.rules.specs.Depths.{top}
 use Rattle.rules.specs.Sheets.{entry}
-use Rattle.rules.specs.Access.{Setting, Name, Chain, setting_by}
+use Rattle.rules.specs.Access.{Setting, Chain, setting_by}
 use Rattle.rules.specs.Verdicts.{Has}
 use Rattle.rules.specs.Greatest.{verdict_of}
 use Rattle.rules.specs.declared.Key.{Key}

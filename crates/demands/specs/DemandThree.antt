@@ -4,7 +4,6 @@ use Rattle.std.specs.Prelude.{◌≡◌, List, ◌↔◌, ℕ, ◌≤◌, length
 use Rattle.std.proofs.Math.Option.{some}
 use Rattle.rules.specs.Tables.{Request, AccessRecord, Delegation}
 use Rattle.rules.specs.Names.{TargetMeans, IsSelf}
-use Rattle.rules.specs.Access.{Granted}
 use Rattle.rules.specs.Meaningless.{WithoutIdle}
 use Rattle.rules.specs.declared.Key.{Key}
 use Rattle.rules.specs.declared.Depth.{Depth}

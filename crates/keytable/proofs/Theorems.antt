@@ -8,7 +8,6 @@ use Rattle.rules.specs.KeyTables.{KeyRequest, key_setting}
 use Rattle.rules.specs.Verdicts.{Verdict, DecidesByKeys}
 use Rattle.rules.proofs.GreatestLaws.{has_one}
 use Rattle.records.specs.Parsed.{Parsed, got}
-use Rattle.records.specs.declared.faults.Fault.{Fault}
 use Rattle.records.proofs.ParsedLaws.{got_or_bad, some_or_none, got_one, bad_one, some_one}
 use Rattle.table.specs.ReadKeyTable.{KeyLaid, key_table_of}
 use Rattle.keytable.specs.Deciding.{KeyDecides, fault, request, denied, granted}

@@ -6,7 +6,7 @@ use native.Mathlib.Nat.{le_refl, le_of_suc-le-suc, not-suc-le-zero}
 use native.Mathlib.Omega.{arith}
 use lib.ListN.{length}
 use Rattle.rules.specs.Lists.{◌▷◌}
-use Rattle.rules.specs.Depths.{top, Above, Step, step_code}
+use Rattle.rules.specs.Depths.{top, Step, step_code}
 use Rattle.rules.specs.Sheets.{entry}
 use Rattle.rules.specs.Access.{Setting, Granted, Chain, first, next}
 use Rattle.rules.specs.Verdicts.{Has, greatest, nothing}

@@ -7,7 +7,7 @@ use lib.Dec.{ltb}
 use borrow.Author.Tests.{ltb-true}
 use Rattle.rules.specs.Choice.{pick}
 use Rattle.rules.specs.Ranges.{most_base}
-use Rattle.rules.specs.Tables.{Target, Binding}
+use Rattle.rules.specs.Tables.{Target}
 use Rattle.rules.specs.declared.Space.{Space}
 use Rattle.records.specs.Parsed.{got, bad, fault_at, ◌⟫◌}
 use Rattle.records.specs.Fields.{any_number, tested, field, space_field, field_read, space_read, field_fault, space_fault}

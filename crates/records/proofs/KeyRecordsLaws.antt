@@ -8,8 +8,6 @@ use Rattle.records.specs.Parsed.{got, ◌⊗◌}
 use Rattle.records.specs.Fields.{key_field, use_fields, depth_field}
 use Rattle.records.specs.KeyRecords.{key_access_record, key_access_read, key_delegation_record, key_delegation_read}
 use Rattle.records.specs.declared.fields.Use.{Use}
-use Rattle.records.specs.declared.keys.KeyAccess.{KeyAccess}
-use Rattle.records.specs.declared.keys.KeyDelegation.{KeyDelegation}
 use Rattle.records.specs.declared.keys.KeyAccessRead.TheVariants as asAccess
 use Rattle.records.specs.declared.keys.KeyDelegationRead.TheVariants as asDelegation
 use Rattle.records.proofs.ParsedLaws.{both_got, mapped_got}

@@ -11,7 +11,7 @@ use Rattle.rules.specs.Lists.{◌▷◌}
 use Rattle.rules.specs.Depths.{top, Step}
 use Rattle.rules.specs.Tables.{AccessRecord, Delegation, Table, Asked}
 use Rattle.rules.specs.Ranges.{Good}
-use Rattle.rules.specs.Access.{Setting, Delegates, written, Access, root, delegated, Granted, Chain, first, next, Name, Meaning, Lists, Writes, setting_by}
+use Rattle.rules.specs.Access.{Setting, Delegates, Access, Granted, Chain, first, next, Name, Meaning, Lists, Writes, setting_by}
 use Rattle.rules.specs.KeyTables.{KeyAccess, KeyDelegation, KeyTable, key_setting}
 use Rattle.rules.specs.declared.Key.{Key}
 use Rattle.rules.specs.declared.Space.{Space}

@@ -8,7 +8,7 @@ use Rattle.rules.specs.Tables.{Path, Target, to_name, Binding, AccessRecord, Del
 use Rattle.rules.specs.Names.{Means, TargetMeans, Through, TargetThrough}
 use Rattle.rules.specs.Ranges.{GoodNames}
 use Rattle.rules.specs.Access.{Chain, first, next, Name, Meaning, Writes, setting_by, setting}
-use Rattle.rules.specs.Derivations.{Derivation, only, Ordered, Holds, by_subject, by_access, by_owner_path, by_delegatee_path}
+use Rattle.rules.specs.Derivations.{Derivation, only, Ordered, Holds}
 use Rattle.rules.specs.Verdicts.{Grants}
 use Rattle.rules.specs.declared.Key.{Key}
 use Rattle.rules.specs.declared.Space.{Space}

@@ -1,5 +1,5 @@
 -- What following a path finds, with the index of a table: the keys of its spaces, and the names that its bindings bind.
-use Rattle.std.specs.Prelude.{◌≡◌, List, ℕ, ◌-◌, ◌<◌, length}
+use Rattle.std.specs.Prelude.{◌≡◌, List, ℕ, ◌-◌, ◌<◌}
 use Rattle.rules.specs.Tables.{NameTable}
 use Rattle.rules.specs.Ranges.{GoodNames}
 use Rattle.rules.specs.declared.Key.{Key}

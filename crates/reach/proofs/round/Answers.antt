@@ -1,5 +1,4 @@
 -- `round` follows the edges one after the other.
-use Prim.Native.Nat.{◌-◌}
 use native.Mathlib.Omega.{arith}
 use Rattle.reach.proofs.EdgesLaws.{froms_length}
 use Rattle.reach.proofs.RoundsLaws.{round_start, round_edges, round_on, round_end}

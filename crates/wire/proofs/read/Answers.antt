@@ -1,5 +1,5 @@
 -- `read`: what was gathered so far, and what stands behind it.
-use Prim.Native.Nat.{◌-◌, ◌%◌}
+use Prim.Native.Nat.{◌%◌}
 use native.Mathlib.Omega.{arith}
 use Rattle.wire.proofs.ReadingLaws.{gathered_start, gathered_cut, gathered_end, gathered_over, gathered_on, counts_here, low_fits}
 use Rattle.wire.proofs.read.Goals as goal

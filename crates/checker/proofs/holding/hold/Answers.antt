@@ -1,6 +1,4 @@
 -- `hold` enters the listed bindings, and finds the subject's key and the chain's by them.
-use mathlib.Core.Path.{ap}
-use borrow.Author.Tests.{not-true, not-false}
 use Rattle.checker.proofs.HoldingLaws.{not_entered, not_named, chain_broken, not_the_subject, holds_so}
 use Rattle.checker.proofs.holding.hold.Goals as goal
 

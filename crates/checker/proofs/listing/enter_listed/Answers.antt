@@ -1,5 +1,4 @@
 -- `enter_listed` enters one listed binding after the other.
-use Prim.Native.Nat.{◌-◌}
 use native.Mathlib.Omega.{arith}
 use Rattle.checker.proofs.EnteringLaws.{entering_start, no_number, not_there, leads_to_none, enters_one, entering_end}
 use Rattle.checker.proofs.listing.enter_listed.Goals as goal

@@ -1,6 +1,5 @@
 -- `walk_on` takes one step for each delegation of the chain.
 use mathlib.Core.Path.{refl}
-use Prim.Native.Nat.{◌-◌}
 use native.Mathlib.Omega.{arith}
 use Rattle.matching.proofs.MatchingLaws.{delegations_past, delegations_below}
 use Rattle.checker.proofs.WalkingLaws.{walk_starts, no_next, not_written, stops_here, walks_on, walk_ends}

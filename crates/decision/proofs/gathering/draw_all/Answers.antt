@@ -1,6 +1,5 @@
 -- `draw_all` takes one delegation after the other.
 use mathlib.Core.Path.{◌∙◌}
-use Prim.Native.Nat.{◌-◌}
 use native.Mathlib.Omega.{arith}
 use Rattle.decision.proofs.DrawingLaws.{drawing_start, drawing_end}
 use Rattle.decision.proofs.gathering.draw_all.Goals as goal

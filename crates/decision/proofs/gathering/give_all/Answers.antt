@@ -1,6 +1,5 @@
 -- `give_all` takes one access record after the other.
 use mathlib.Core.Path.{refl, ◌∙◌}
-use Prim.Native.Nat.{◌-◌}
 use native.Mathlib.Omega.{arith}
 use Rattle.decision.proofs.GatheringLaws.{given_all}
 use Rattle.decision.proofs.gathering.give_all.Goals as goal

@@ -1,5 +1,4 @@
 -- `copy` goes through the numbers.
-use Prim.Native.Nat.{◌-◌}
 use native.Mathlib.Omega.{arith}
 use Rattle.decision.proofs.SettlingLaws.{copied_start, copied_on, copied_end}
 use Rattle.decision.proofs.settling.copy.Goals as goal

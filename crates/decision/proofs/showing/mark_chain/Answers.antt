@@ -1,5 +1,4 @@
 -- `mark_chain` takes one delegation after the other.
-use Prim.Native.Nat.{◌-◌}
 use native.Mathlib.Omega.{arith}
 use Rattle.decision.proofs.ShowingLaws.{marking_start, marking_on, marking_end}
 use Rattle.decision.proofs.showing.mark_chain.Goals as goal

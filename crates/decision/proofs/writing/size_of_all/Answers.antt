@@ -1,5 +1,4 @@
 -- `size_of_all` takes the sum.
-use Prim.Native.Nat.{◌-◌}
 use native.Mathlib.Omega.{arith}
 use Rattle.decision.proofs.WritingLaws.{summed_start, summed_on, summed_end, sum_fits}
 use Rattle.decision.proofs.writing.size_of_all.Goals as goal

@@ -1,6 +1,5 @@
 -- `collect_codes` goes through the places of the access records, of which each can be read, and takes each.
 use mathlib.Core.Path.{refl, ◌∙◌}
-use Prim.Native.Nat.{◌-◌}
 use native.Mathlib.Omega.{arith}
 use Rattle.records.proofs.KeyRecordsForm.{key_access_walks}
 use Rattle.keytable.proofs.AnswersLaws.{access_got, access_bad}

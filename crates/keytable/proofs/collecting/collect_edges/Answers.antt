@@ -1,6 +1,5 @@
 -- `collect_edges` goes through the places of the delegations, of which each can be read, and takes each.
 use mathlib.Core.Path.{refl, ◌∙◌}
-use Prim.Native.Nat.{◌-◌}
 use native.Mathlib.Omega.{arith}
 use Rattle.records.proofs.KeyRecordsForm.{key_delegation_walks}
 use Rattle.keytable.proofs.AnswersLaws.{delegation_got, delegation_bad}

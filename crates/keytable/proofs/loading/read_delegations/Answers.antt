@@ -1,5 +1,4 @@
 -- `read_delegations` goes on as `many` of them does, one after the other, and keeps the places of those that are for what is asked.
-use Prim.Native.Nat.{◌-◌}
 use native.Mathlib.Omega.{arith}
 use Rattle.keytable.proofs.SiftingLaws.{sifting_start, sifting_few, sifting_room, sifting_bad, sifting_on, sifting_end}
 use Rattle.keytable.proofs.loading.read_delegations.Goals as goal

@@ -1,5 +1,4 @@
 -- `keep_marked` looks at one listed number after the other.
-use Prim.Native.Nat.{◌-◌}
 use native.Mathlib.Omega.{arith}
 use Rattle.marking.proofs.KeptLaws.{kept_start, kept_end}
 use Rattle.marking.proofs.keeping.keep_marked.Goals as goal

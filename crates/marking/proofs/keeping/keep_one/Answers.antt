@@ -1,7 +1,5 @@
 -- `keep_one` passes over a number that is not marked, and moves one that is.
-use mathlib.Core.Path.{ap}
 use native.Mathlib.Omega.{arith}
-use borrow.Author.Tests.{not-true, not-false}
 use Rattle.marking.proofs.KeptLaws.{passes_over, takes_one}
 use Rattle.marking.proofs.keeping.keep_one.Goals as goal
 

@@ -1,7 +1,5 @@
 -- `mark_for` reads the binding where it stands, if it is marked, and marks what its target goes through.
-use mathlib.Core.Path.{ap}
 use native.Mathlib.Omega.{arith}
-use borrow.Author.Tests.{not-true, not-false}
 use Rattle.sheet.proofs.MeaningLaws.{place_within, no_fault, target_fitting, target_read_lem}
 use Rattle.sheet.proofs.FillingLaws.{entry_below}
 use Rattle.marking.proofs.NeededLaws.{wants_none, wants_these}

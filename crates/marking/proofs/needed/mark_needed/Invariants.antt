@@ -1,5 +1,4 @@
 -- `mark_needed` passes the listed bindings from the last to the first.
-use Prim.Native.Nat.{◌-◌}
 use lib.ListN.{take}
 use Rattle.table.specs.ReadTable.{table_at}
 use Rattle.marking.proofs.NeededLaws.{Passed}

@@ -1,5 +1,4 @@
 -- `mark` marks the binding that the first name opens, and goes on from the key that it gives with one name fewer.
-use lib.ListN.{length}
 use Rattle.marking.proofs.through.+mark.Given as goal
 
 abbrev pub decreases-mark : goal.decreases-mark

@@ -1,5 +1,4 @@
 -- `put_numbers` keeps the first `i` numbers written, one behind the other.
-use Prim.Native.Nat.{◌-◌}
 use Rattle.records.proofs.PutLaws.{putting_start, putting_room, putting_on, putting_end}
 use Rattle.records.proofs.derivations.put_numbers.Goals as goal
 

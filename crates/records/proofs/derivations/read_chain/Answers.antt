@@ -1,5 +1,4 @@
 -- `read_chain` goes on as `many chain_number` does.
-use Prim.Native.Nat.{◌-◌}
 use Rattle.records.proofs.DerivationBytesLaws.{chaining_start, chaining_fails, chaining_on, chaining_end}
 use Rattle.records.proofs.derivations.read_chain.Goals as goal
 

@@ -1,5 +1,4 @@
 -- `read_listed` goes on as `many listed_number` does, with a mark for each number that was seen.
-use Prim.Native.Nat.{◌-◌}
 use Rattle.records.proofs.DerivationBytesLaws.{listing_start, listing_fails, listing_below, listing_twice, listing_on, listing_end}
 use Rattle.records.proofs.derivations.read_listed.Goals as goal
 

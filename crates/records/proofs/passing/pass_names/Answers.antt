@@ -1,6 +1,5 @@
 -- `pass_names`: where the names that are left are good, all are.
 use mathlib.Core.Path.{refl}
-use Prim.Native.Nat.{◌-◌}
 use Rattle.records.proofs.PassingLaws.{names_start, names_on, names_end, passes_none}
 use Rattle.records.proofs.passing.pass_names.Goals as goal
 

@@ -1,5 +1,4 @@
 -- `find_first` goes on one by one where the eights end: those before `at` are others.
-use Prim.Native.Nat.{◌-◌}
 use native.Mathlib.Omega.{arith}
 use Rattle.records.proofs.RowsLaws.{passed_on}
 use Rattle.records.proofs.rows.find_first.Goals as goal

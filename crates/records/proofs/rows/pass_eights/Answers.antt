@@ -1,6 +1,5 @@
 -- `pass_eights`: those before `at` are others.
 use mathlib.Core.Path.{sym, ◌∙◌}
-use Prim.Native.Nat.{◌-◌}
 use native.Mathlib.Omega.{arith}
 use Rattle.records.proofs.RowsLaws.{passed_start, passed_eight}
 use Rattle.records.proofs.rows.pass_eights.Goals as goal

@@ -1,5 +1,4 @@
 -- `clear` fills from the front with 0.
-use Prim.Native.Nat.{◌-◌}
 use Rattle.sheet.proofs.ClearedLaws.{cleared_start, cleared_on, cleared_end}
 use Rattle.sheet.proofs.filling.clear.Goals as goal
 

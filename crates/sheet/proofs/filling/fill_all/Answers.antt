@@ -1,6 +1,5 @@
 -- `fill_all` goes on until a round lists no more, or all are listed.
 use mathlib.Core.Path.{refl, ◌∙◌}
-use Prim.Native.Nat.{◌-◌}
 use Rattle.sheet.proofs.FillingLaws.{cleared_listing, round_falls, quiet_ends, full_ends}
 use Rattle.sheet.proofs.WaitingLaws.{cleared_waiting}
 use Rattle.sheet.proofs.filling.fill_all.Goals as goal

@@ -1,6 +1,5 @@
 -- `round` takes one turn for each binding.
 use mathlib.Core.Path.{refl, ◌∙◌}
-use Prim.Native.Nat.{◌-◌}
 use native.Mathlib.Omega.{arith}
 use Rattle.sheet.proofs.FillingLaws.{round_start, round_on, round_end}
 use Rattle.sheet.proofs.filling.round.Goals as goal

@@ -1,5 +1,4 @@
 -- `read_accesses` goes on as `many` of them does, and keeps their places.
-use Prim.Native.Nat.{◌-◌}
 use native.Mathlib.Omega.{arith}
 use Rattle.table.proofs.PlacingLaws.{placing_start, placing_bad, placing_on, placing_end}
 use Rattle.table.proofs.loading.read_accesses.Goals as goal

@@ -1,6 +1,5 @@
 -- `read_bindings` goes on as `many` of bindings does, and keeps each name packed, and its place.
 use mathlib.Core.Path.{sym}
-use Prim.Native.Nat.{◌-◌}
 use native.Mathlib.Omega.{arith}
 use lib.Seq.{length-take-le}
 use Rattle.table.proofs.BindingsLaws.{binds_start, binds_bad, binds_on, binds_end}

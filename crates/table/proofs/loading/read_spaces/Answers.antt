@@ -1,6 +1,5 @@
 -- `read_spaces` goes on as `many space_key` does, and keeps each key.
 use mathlib.Core.Path.{sym}
-use Prim.Native.Nat.{◌-◌}
 use native.Mathlib.Omega.{arith}
 use lib.Seq.{length-take-le}
 use Rattle.table.proofs.SpacesLaws.{spaced_start, spaced_fails, spaced_twice, spaced_on, spaced_end}

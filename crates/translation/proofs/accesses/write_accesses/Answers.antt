@@ -1,5 +1,4 @@
 -- `write_accesses` keeps what the first `i` records became written, one behind the other.
-use Prim.Native.Nat.{◌-◌}
 use Rattle.matching.proofs.MatchingLaws.{accesses_below, accesses_past}
 use Rattle.translation.proofs.WritingLaws.{writing_start, writing_within, writing_room, writing_on, writing_end}
 use Rattle.translation.proofs.GoodLaws.{access_one, key_table_translates}

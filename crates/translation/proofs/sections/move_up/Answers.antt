@@ -1,5 +1,4 @@
 -- `move_up` moves the last byte first.
-use Prim.Native.Nat.{◌-◌}
 use Rattle.translation.proofs.SectionsLaws.{moving_start, moving_on, moving_end}
 use Rattle.translation.proofs.sections.move_up.Goals as goal
 

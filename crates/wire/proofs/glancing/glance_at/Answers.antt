@@ -1,5 +1,4 @@
 -- `glance_at` gathers groups as `read` does; the bounds were looked at before.
-use Prim.Native.Nat.{◌-◌}
 use native.Mathlib.Omega.{arith}
 use Rattle.wire.proofs.GlancingLaws.{glances_none, glancing_start, glancing_fits, glancing_short, glancing_long, glancing_on, glancing_told}
 use Rattle.wire.proofs.glancing.glance_at.Goals as goal
