@@ -1,4 +1,5 @@
 -- What the answer lines say.
+pub mod Digits
 pub mod Hashes
 pub mod Lines
 pub mod Parts

@@ -6,9 +6,10 @@ ghost use Rattle.vectors.specs.Hashes.{hash_of, numbers_bytes};
 use crate::hashes::{hash_of, hash_of_numbers, wide, write_hash, write_hex};
 use crate::input::{Part, read_part};
 use crate::lines::{end_line, write_answer};
+use crate::streams::{large_buffer, write_all};
 use kernel::answers::Answer;
 use kernel::rustamgheb_decide;
-use libc::STDOUT_FILENO;
+use std::io::{Read, Write};
 
 // What the line says: the answer, the hash of the whole sheet, and the hash of the bytes behind the derivation.
 #[derive(Clone, Copy)]
@@ -54,24 +55,25 @@ fn read_numbers(bytes: &[u8], numbers: &mut [u32])
 }
 
 // Writes the line: the derivation in digits, or a dash.
-fn write_row(row: Row, derivation: &[u8])
+fn write_row<W: Write>(out: &mut W, row: Row, derivation: &[u8])
     requires { row.answer.length ≤ length derivation.now }
 {
     let answer = row.answer;
-    write_answer(answer);
-    write_hash(row.sheet);
-    write_hash(row.rest);
+    write_answer(out, answer);
+    write_hash(out, row.sheet);
+    write_hash(out, row.rest);
     let length = answer.length as usize;
     if length == 0 {
-        io::write_all(STDOUT_FILENO, b" -");
+        write_all(out, b" -");
     } else {
-        write_hex(&derivation[..length]);
+        write_hex(out, &derivation[..length]);
     }
-    end_line();
+    end_line(out);
 }
 
 // Decides with a sheet that holds these bytes before, and writes the line.
-fn answer_with(
+fn answer_with<W: Write>(
+    out: &mut W,
     table: &[u8],
     request: &[u8],
     before: &[u8],
@@ -82,29 +84,30 @@ fn answer_with(
 {
     read_numbers(before, sheet);
     let row = row_of(table, request, sheet, derivation);
-    write_row(row, derivation);
+    write_row(out, row, derivation);
 }
 
 // Answers the case, and says whether to go on.
-pub fn answer() -> bool {
-    let mut first = io::large_buffer();
-    let Part::Whole(table) = read_part(&mut first) else {
+pub fn answer<R: Read, W: Write, E: Write>(input: &mut R, out: &mut W, errors: &mut E) -> bool {
+    let mut first = large_buffer();
+    let Part::Whole(table) = read_part(input, errors, &mut first) else {
         return false;
     };
-    let mut second = io::large_buffer();
-    let Part::Whole(request) = read_part(&mut second) else {
+    let mut second = large_buffer();
+    let Part::Whole(request) = read_part(input, errors, &mut second) else {
         return false;
     };
     let mut third = [0u8; 4096];
-    let Part::Whole(bytes) = read_part(&mut third) else {
+    let Part::Whole(bytes) = read_part(input, errors, &mut third) else {
         return false;
     };
-    let mut fourth = io::large_buffer();
-    let Part::Whole(length) = read_part(&mut fourth) else {
+    let mut fourth = large_buffer();
+    let Part::Whole(length) = read_part(input, errors, &mut fourth) else {
         return false;
     };
     let mut numbers = [0u32; 1024];
     answer_with(
+        out,
         &first[..table],
         &second[..request],
         &third[..bytes],

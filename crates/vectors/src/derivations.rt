@@ -6,6 +6,7 @@ ghost use Rattle.vectors.specs.Lines.{derivation_line};
 use crate::lines::{Line, write_line};
 use kernel::answers::{DONE, NOT_A_DERIVATION};
 use records::derivations::{DerivationRead, read_derivation};
+use std::io::Write;
 
 // The line of a derivation: how many bindings it lists and how many records its chain has.
 fn line_of(bytes: &[u8]) -> Line
@@ -22,6 +23,6 @@ fn line_of(bytes: &[u8]) -> Line
 }
 
 // Answers the case.
-pub fn answer(bytes: &[u8]) {
-    write_line(line_of(bytes));
+pub fn answer<W: Write>(out: &mut W, bytes: &[u8]) {
+    write_line(out, line_of(bytes));
 }

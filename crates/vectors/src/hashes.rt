@@ -2,7 +2,8 @@
 ghost use Rattle.std.specs.Prelude.{◌≡◌};
 ghost use Rattle.vectors.specs.Hashes.{hashed, hash_from, hash_of, four_bytes, numbers_bytes};
 
-use libc::STDOUT_FILENO;
+use crate::streams::{print_hex, write_all};
+use std::io::Write;
 
 // The hash of no bytes.
 const START: u32 = 2166136261;
@@ -58,17 +59,17 @@ pub fn hash_of_numbers(numbers: &[u32]) -> u32
 }
 
 // Writes a further part of a line: the hash in 8 digits.
-pub fn write_hash(hash: u32) {
-    io::write_all(STDOUT_FILENO, b" ");
-    io::print_hex(STDOUT_FILENO, hash as u64, 8);
+pub fn write_hash<W: Write>(out: &mut W, hash: u32) {
+    write_all(out, b" ");
+    print_hex(out, hash as u64, 8);
 }
 
 // Writes a further part of a line: the bytes, each in 2 digits.
-pub fn write_hex(bytes: &[u8]) {
-    io::write_all(STDOUT_FILENO, b" ");
+pub fn write_hex<W: Write>(out: &mut W, bytes: &[u8]) {
+    write_all(out, b" ");
     let mut i = 0;
     while i < bytes.len() {
-        io::print_hex(STDOUT_FILENO, wide(bytes[i]) as u64, 2);
+        print_hex(out, wide(bytes[i]) as u64, 2);
         i = i + 1;
     }
 }

@@ -2,7 +2,8 @@
 ghost use Rattle.std.specs.Prelude.{◌≡◌, false, ◌+◌, ◌*◌};
 ghost use Rattle.vectors.specs.Parts.{Fits};
 
-use libc::{STDERR_FILENO, STDIN_FILENO};
+use crate::streams::{read_full, write_all};
+use std::io::{Read, Write};
 
 // A part that stands whole at the start of a buffer, with its length.
 #[derive(Clone, Copy)]
@@ -12,12 +13,12 @@ pub enum Part {
 }
 
 // Says on standard error why the program stops, and answers that it does.
-pub fn stopped(reason: &[u8]) -> bool
+pub fn stopped<E: Write>(errors: &mut E, reason: &[u8]) -> bool
     ensures { result ≡ false }
 {
-    io::write_all(STDERR_FILENO, b"vectors: ");
-    io::write_all(STDERR_FILENO, reason);
-    io::write_all(STDERR_FILENO, b"\n");
+    write_all(errors, b"vectors: ");
+    write_all(errors, reason);
+    write_all(errors, b"\n");
     false
 }
 
@@ -36,30 +37,40 @@ fn number_of(first: u8, second: u8, third: u8, fourth: u8) -> usize
 }
 
 // Reads so many bytes into the start of the buffer.
-fn read_bytes(buffer: &mut [u8], count: usize) -> Part
+fn read_bytes<R: Read, E: Write>(
+    input: &mut R,
+    errors: &mut E,
+    buffer: &mut [u8],
+    count: usize,
+) -> Part
     ensures { Fits result buffer.new }
 {
     if buffer.len() < count {
-        stopped(b"a part is too long");
+        stopped(errors, b"a part is too long");
         return Part::Broken;
     }
-    let got = io::read_full(STDIN_FILENO, &mut buffer[..count]);
+    let got = read_full(input, &mut buffer[..count]);
     if got == count {
         return Part::Whole(count);
     }
-    stopped(b"the file ends within a case");
+    stopped(errors, b"the file ends within a case");
     Part::Broken
 }
 
 // Reads the next part into the start of the buffer.
-pub fn read_part(buffer: &mut [u8]) -> Part
+pub fn read_part<R: Read, E: Write>(input: &mut R, errors: &mut E, buffer: &mut [u8]) -> Part
     ensures { Fits result buffer.new }
 {
     let mut four = [0u8; 4];
-    let got = io::read_full(STDIN_FILENO, &mut four);
+    let got = read_full(input, &mut four);
     if got == 4 {
-        return read_bytes(buffer, number_of(four[0], four[1], four[2], four[3]));
+        return read_bytes(
+            input,
+            errors,
+            buffer,
+            number_of(four[0], four[1], four[2], four[3]),
+        );
     }
-    stopped(b"the file ends within a case");
+    stopped(errors, b"the file ends within a case");
     Part::Broken
 }

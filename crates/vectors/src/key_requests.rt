@@ -6,6 +6,7 @@ ghost use Rattle.vectors.specs.Lines.{key_request_line};
 use crate::lines::{Line, write_line};
 use kernel::answers::{DONE, WRONG_REQUEST};
 use records::requests::{KeyRequestRead, read_key_request};
+use std::io::Write;
 
 // The line of a key request: whether it is good.
 fn line_of(bytes: &[u8]) -> Line
@@ -18,6 +19,6 @@ fn line_of(bytes: &[u8]) -> Line
 }
 
 // Answers the case.
-pub fn answer(bytes: &[u8]) {
-    write_line(line_of(bytes));
+pub fn answer<W: Write>(out: &mut W, bytes: &[u8]) {
+    write_line(out, line_of(bytes));
 }

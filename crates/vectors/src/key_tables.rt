@@ -6,6 +6,7 @@ ghost use Rattle.vectors.specs.Lines.{key_table_line};
 use crate::lines::{Line, fault_line, write_line};
 use kernel::answers::DONE;
 use keytable::{KeyLoaded, load_key_table};
+use std::io::Write;
 
 // The line of a key table: how many records of each kind it has, or its fault.
 fn line_of(bytes: &[u8]) -> Line
@@ -22,6 +23,6 @@ fn line_of(bytes: &[u8]) -> Line
 }
 
 // Answers the case.
-pub fn answer(bytes: &[u8]) {
-    write_line(line_of(bytes));
+pub fn answer<W: Write>(out: &mut W, bytes: &[u8]) {
+    write_line(out, line_of(bytes));
 }

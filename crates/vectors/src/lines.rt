@@ -2,9 +2,10 @@
 ghost use Rattle.std.specs.Prelude.{◌≡◌};
 ghost use Rattle.vectors.specs.Lines.{fault_line};
 
+use crate::streams::{print_decimal, write_all};
 use kernel::answers::{Answer, number_of};
-use libc::STDOUT_FILENO;
 use records::faults::Fault;
+use std::io::Write;
 
 // The numbers of a line.
 #[derive(Clone, Copy)]
@@ -25,73 +26,73 @@ pub fn fault_line(fault: Fault) -> Line
 }
 
 // Writes the first number of a line.
-fn write_first(number: u32) {
-    io::print_decimal(STDOUT_FILENO, number as u64);
+fn write_first<W: Write>(out: &mut W, number: u32) {
+    print_decimal(out, number as u64);
 }
 
 // Writes a further number of a line.
-fn write_next(number: usize) {
-    io::write_all(STDOUT_FILENO, b" ");
-    io::print_decimal(STDOUT_FILENO, number as u64);
+fn write_next<W: Write>(out: &mut W, number: usize) {
+    write_all(out, b" ");
+    print_decimal(out, number as u64);
 }
 
 // Ends the line.
-pub fn end_line() {
-    io::write_all(STDOUT_FILENO, b"\n");
+pub fn end_line<W: Write>(out: &mut W) {
+    write_all(out, b"\n");
 }
 
 // Writes the line.
-pub fn write_line(line: Line) {
+pub fn write_line<W: Write>(out: &mut W, line: Line) {
     match line {
         Line::One(first) => {
-            write_first(first);
+            write_first(out, first);
         }
         Line::Two(first, second) => {
-            write_first(first);
-            write_next(second);
+            write_first(out, first);
+            write_next(out, second);
         }
         Line::Three(first, second, third) => {
-            write_first(first);
-            write_next(second);
-            write_next(third);
+            write_first(out, first);
+            write_next(out, second);
+            write_next(out, third);
         }
         Line::Five(first, second, third, fourth, fifth) => {
-            write_first(first);
-            write_next(second);
-            write_next(third);
-            write_next(fourth);
-            write_next(fifth);
+            write_first(out, first);
+            write_next(out, second);
+            write_next(out, third);
+            write_next(out, fourth);
+            write_next(out, fifth);
         }
     }
-    end_line();
+    end_line(out);
 }
 
 // Writes the numbers of an answer: its number, offset, depth and length.
-pub fn write_answer(answer: Answer) {
-    write_first(answer.number);
-    write_next(answer.offset as usize);
-    write_next(answer.depth as usize);
-    write_next(answer.length as usize);
+pub fn write_answer<W: Write>(out: &mut W, answer: Answer) {
+    write_first(out, answer.number);
+    write_next(out, answer.offset as usize);
+    write_next(out, answer.depth as usize);
+    write_next(out, answer.length as usize);
 }
 
 // Writes the line of an answer.
-pub fn write_answer_line(answer: Answer) {
-    write_answer(answer);
-    end_line();
+pub fn write_answer_line<W: Write>(out: &mut W, answer: Answer) {
+    write_answer(out, answer);
+    end_line(out);
 }
 
 // Writes further numbers of a line.
-fn write_all_next(numbers: &[u32]) {
+fn write_all_next<W: Write>(out: &mut W, numbers: &[u32]) {
     let mut i = 0;
     while i < numbers.len() {
-        write_next(numbers[i] as usize);
+        write_next(out, numbers[i] as usize);
         i = i + 1;
     }
 }
 
 // Writes a line of a number and a row of numbers.
-pub fn write_row(first: u32, numbers: &[u32]) {
-    write_first(first);
-    write_all_next(numbers);
-    end_line();
+pub fn write_row<W: Write>(out: &mut W, first: u32, numbers: &[u32]) {
+    write_first(out, first);
+    write_all_next(out, numbers);
+    end_line(out);
 }

@@ -1,8 +1,11 @@
 // vectors < CASES > LINES: the answer line of each case of a case file, in the file's order.
 #![tactic(auto)]
+
 use crate::input::stopped;
 use crate::parts::{answer_one, answer_two};
-use libc::STDIN_FILENO;
+use crate::streams::read_full;
+use std::io;
+use std::io::{BufReader, BufWriter, Read, Write};
 
 mod checks;
 mod decisions;
@@ -16,40 +19,51 @@ mod lines;
 mod parts;
 mod requests;
 mod sheets;
+mod streams;
 mod tables;
 mod translations;
 
 // Answers a case of this kind, and says whether to go on.
-fn answer_case(kind: u8) -> bool {
+fn answer_case<R: Read, W: Write, E: Write>(
+    input: &mut R,
+    out: &mut W,
+    errors: &mut E,
+    kind: u8,
+) -> bool {
     match kind {
-        1 => answer_one(kind),
-        2 => answer_two(kind),
-        3 => answer_one(kind),
-        4 => answer_one(kind),
-        5 => answer_one(kind),
-        6 => answer_one(kind),
-        10 => decisions::answer(),
-        11 => checks::answer(),
-        12 => answer_two(kind),
-        13 => answer_two(kind),
-        _ => stopped(b"no such kind"),
+        1 => answer_one(input, out, errors, kind),
+        2 => answer_two(input, out, errors, kind),
+        3 => answer_one(input, out, errors, kind),
+        4 => answer_one(input, out, errors, kind),
+        5 => answer_one(input, out, errors, kind),
+        6 => answer_one(input, out, errors, kind),
+        10 => decisions::answer(input, out, errors),
+        11 => checks::answer(input, out, errors),
+        12 => answer_two(input, out, errors, kind),
+        13 => answer_two(input, out, errors, kind),
+        _ => stopped(errors, b"no such kind"),
     }
 }
 
 // Answers the next case, if there is one, and says whether to go on.
-fn answer_next() -> bool {
+fn answer_next<R: Read, W: Write, E: Write>(input: &mut R, out: &mut W, errors: &mut E) -> bool {
     let mut kind = [0u8; 1];
-    let got = io::read_full(STDIN_FILENO, &mut kind);
+    let got = read_full(input, &mut kind);
     if got == 0 {
         return false;
     }
-    answer_case(kind[0])
+    answer_case(input, out, errors, kind[0])
 }
 
 // A proved loop has to end, and nothing says that the input does: the turns count down from a number that no input uses up.
-fn main() {
+// The lines stand in a buffer until it is full or the cases end.
+fn main(rt: HostRuntime) -> io::Result<()> {
+    let mut input = BufReader::new(rt.alloc(), rt.stdin())?;
+    let mut out = BufWriter::new(rt.alloc(), rt.stdout())?;
+    let mut errors = rt.stderr();
     let mut turns = u64::MAX;
-    while turns > 0 && answer_next() {
+    while turns > 0 && answer_next(&mut input, &mut out, &mut errors) {
         turns -= 1;
     }
+    out.flush()
 }

@@ -6,6 +6,7 @@ ghost use Rattle.vectors.specs.Lines.{request_line};
 use crate::lines::{Line, fault_line, write_line};
 use kernel::answers::{DONE, WRONG_REQUEST};
 use records::requests::{RequestRead, read_request};
+use std::io::Write;
 use table::{Loaded, load};
 
 // The line of a request: the table's fault, or whether the request is good.
@@ -25,6 +26,6 @@ fn line_of(bytes: &[u8], request: &[u8]) -> Line
 }
 
 // Answers the case.
-pub fn answer(table: &[u8], request: &[u8]) {
-    write_line(line_of(table, request));
+pub fn answer<W: Write>(out: &mut W, table: &[u8], request: &[u8]) {
+    write_line(out, line_of(table, request));
 }

@@ -7,6 +7,7 @@ use crate::lines::{fault_line, write_line, write_row};
 use kernel::answers::DONE;
 use records::faults::Fault;
 use sheet::filling::fill;
+use std::io::Write;
 use table::{Loaded, load_index};
 
 // How many entries the sheet of a table has, or the table's fault.
@@ -54,11 +55,11 @@ fn fill_sheet(table: &[u8], sheet: &mut [u32], order: &mut [u16]) -> SheetRead
 }
 
 // Answers the case.
-pub fn answer(table: &[u8]) {
+pub fn answer<W: Write>(out: &mut W, table: &[u8]) {
     let mut sheet = [7u32; 256];
     let mut order = [0u16; 256];
     match fill_sheet(table, &mut sheet, &mut order) {
-        SheetRead::Entries(count) => write_row(DONE, &sheet[..count]),
-        SheetRead::Bad(fault) => write_line(fault_line(fault)),
+        SheetRead::Entries(count) => write_row(out, DONE, &sheet[..count]),
+        SheetRead::Bad(fault) => write_line(out, fault_line(fault)),
     }
 }

@@ -5,6 +5,7 @@ ghost use Rattle.vectors.specs.Lines.{table_line};
 
 use crate::lines::{Line, fault_line, write_line};
 use kernel::answers::DONE;
+use std::io::Write;
 use table::{Loaded, load};
 
 // The line of a table: how many records of each kind it has, or its fault.
@@ -30,6 +31,6 @@ fn line_of(bytes: &[u8]) -> Line
 }
 
 // Answers the case.
-pub fn answer(bytes: &[u8]) {
-    write_line(line_of(bytes));
+pub fn answer<W: Write>(out: &mut W, bytes: &[u8]) {
+    write_line(out, line_of(bytes));
 }

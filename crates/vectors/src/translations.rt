@@ -7,6 +7,7 @@ use crate::hashes::{hash_of, write_hash};
 use crate::lines::{end_line, write_answer};
 use kernel::answers::Answer;
 use kernel::rustamgheb_translate;
+use std::io::Write;
 
 // What the line says: the answer, and the hash of the whole buffer.
 #[derive(Clone, Copy)]
@@ -28,10 +29,10 @@ fn row_of(table: &[u8], buffer: &mut [u8]) -> Row
 }
 
 // Answers the case.
-pub fn answer(table: &[u8], buffer: &mut [u8]) {
+pub fn answer<W: Write>(out: &mut W, table: &[u8], buffer: &mut [u8]) {
     let row = row_of(table, buffer);
     let answer = row.answer;
-    write_answer(answer);
-    write_hash(row.buffer);
-    end_line();
+    write_answer(out, answer);
+    write_hash(out, row.buffer);
+    end_line(out);
 }
