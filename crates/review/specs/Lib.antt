@@ -1,4 +1,5 @@
 -- What the reviewer's tool says.
+pub mod Counts
 pub mod Files
 pub mod Found
 pub mod Opened

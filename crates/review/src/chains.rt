@@ -8,9 +8,9 @@ use records::fields::{Field, read_field};
 use rules::Depth;
 
 // The depth that is reached.
-fn say_depth(depth: Depth) {
-    say_with(b"      depth after it: ", depth.number());
-    say(b"\n");
+fn say_depth(rt: &impl Print, depth: Depth) {
+    say_with(rt, b"      depth after it: ", depth.number());
+    say(rt, b"\n");
 }
 
 // The depth after a step from `before` by a delegation, or nothing where no step is left.
@@ -24,7 +24,7 @@ fn step(before: Depth, by: Depth) -> Recounted
 }
 
 // Delegation number `j` as a step from the depth `before`; answers the depth after it.
-fn explain_step(
+fn explain_step(rt: &impl Print, 
     table: &[u8],
     keys: &[u32],
     names: &[u32],
@@ -40,7 +40,7 @@ fn explain_step(
     if delegations.len() <= j {
         return Recounted::Nothing;
     }
-    let said = recount_delegation(table, keys, names, accesses, delegations, sheet, j);
+    let said = recount_delegation(rt, table, keys, names, accesses, delegations, sheet, j);
     let Recounted::Depth(by) = said else {
         return Recounted::Nothing;
     };
@@ -48,12 +48,12 @@ fn explain_step(
     let Recounted::Depth(depth) = after else {
         return Recounted::Nothing;
     };
-    say_depth(depth);
+    say_depth(rt, depth);
     Recounted::Depth(depth)
 }
 
 // The delegations whose numbers stand from the place `from` on, so many of them, as steps from the depth `start`.
-fn explain_steps(
+fn explain_steps(rt: &impl Print, 
     table: &[u8],
     keys: &[u32],
     names: &[u32],
@@ -77,7 +77,7 @@ fn explain_steps(
             return;
         };
         let j = value as usize;
-        let step = explain_step(
+        let step = explain_step(rt, 
             table,
             keys,
             names,
@@ -98,7 +98,7 @@ fn explain_steps(
 }
 
 // The chain whose access record's number stands at the place `at`, with so many delegations.
-pub fn explain_chain(
+pub fn explain_chain(rt: &impl Print, 
     table: &[u8],
     keys: &[u32],
     names: &[u32],
@@ -120,12 +120,12 @@ pub fn explain_chain(
     if accesses.len() <= i {
         return;
     }
-    let said = recount_access(table, keys, names, accesses, delegations, sheet, i);
+    let said = recount_access(rt, table, keys, names, accesses, delegations, sheet, i);
     let Recounted::Depth(depth) = said else {
         return;
     };
-    say_depth(depth);
-    explain_steps(
+    say_depth(rt, depth);
+    explain_steps(rt, 
         table,
         keys,
         names,

@@ -1,39 +1,40 @@
 // review check TABLE DERIVATION REQUEST: checks the derivation, and explains one that holds.
 use crate::answers::{say_answer, say_refusal};
 use crate::asking::ask;
-use crate::files::{Part, read_file};
+use crate::files::{Part, large_buffer, read_file};
 use crate::opening::{Task, open};
 use crate::printing::{say, say_with};
 use crate::writing::Form;
 use kernel::answers::DONE;
 use kernel::rustamgheb_check;
+use std::rt::{Env, Files};
 
 // Answers whether the derivation holds.
-fn answer(table: &[u8], request: &[u8], derivation: &[u8]) {
+fn answer(rt: &impl Print, table: &[u8], request: &[u8], derivation: &[u8]) {
     let told = rustamgheb_check(table, request, derivation);
     if told.number != DONE {
-        say_refusal(told);
+        say_refusal(rt, told);
         return;
     }
-    say_answer(DONE);
-    say_with(b"0 Accepted, depth ", told.depth);
-    say(b".\n");
-    open(table, request, derivation, Task::Explain);
+    say_answer(rt, DONE);
+    say_with(rt, b"0 Accepted, depth ", told.depth);
+    say(rt, b".\n");
+    open(rt, table, request, derivation, Task::Explain);
 }
 
 // Reads the table, the derivation and the request, and answers.
-pub fn run() {
-    let mut first = io::large_buffer();
-    let Part::Whole(table) = read_file(2, &mut first) else {
+pub fn run(rt: &(impl Env + Files + Print)) {
+    let mut first = large_buffer();
+    let Part::Whole(table) = read_file(rt, 2, &mut first) else {
         return;
     };
-    let mut second = io::large_buffer();
-    let Part::Whole(derivation) = read_file(3, &mut second) else {
+    let mut second = large_buffer();
+    let Part::Whole(derivation) = read_file(rt, 3, &mut second) else {
         return;
     };
-    let mut third = io::large_buffer();
-    let Part::Whole(request) = ask(&mut third, 4, Form::Names) else {
+    let mut third = large_buffer();
+    let Part::Whole(request) = ask(rt, &mut third, 4, Form::Names) else {
         return;
     };
-    answer(&first[..table], &third[..request], &second[..derivation]);
+    answer(rt, &first[..table], &third[..request], &second[..derivation]);
 }

@@ -43,35 +43,35 @@ fn digits(number: usize) -> usize
 }
 
 // Writes so many spaces.
-fn say_spaces(count: usize) {
+fn say_spaces(rt: &impl Print, count: usize) {
     let mut i = 0;
     while i < count {
-        say(b" ");
+        say(rt, b" ");
         i = i + 1;
     }
 }
 
 // Writes spaces for what a column of this width has left.
-fn fill_up(width: usize, taken: usize) {
+fn fill_up(rt: &impl Print, width: usize, taken: usize) {
     if taken < width {
-        say_spaces(width - taken);
+        say_spaces(rt, width - taken);
     }
 }
 
 // Writes the number at the right end of a column.
-pub fn column(width: usize, number: usize) {
-    fill_up(width, digits(number));
-    say_count(number);
+pub fn column(rt: &impl Print, width: usize, number: usize) {
+    fill_up(rt, width, digits(number));
+    say_count(rt, number);
 }
 
 // Writes the key at the right end of a column; 0 is none.
-pub fn key_column(width: usize, key: u32) {
+pub fn key_column(rt: &impl Print, width: usize, key: u32) {
     if key == 0 {
-        fill_up(width, 1);
-        say(b"-");
+        fill_up(rt, width, 1);
+        say(rt, b"-");
         return;
     }
-    column(width, key as usize);
+    column(rt, width, key as usize);
 }
 
 // How many bytes the base name takes in a path, with the point before it, if it is there.
@@ -96,7 +96,7 @@ fn path_width(path: Path) -> usize {
 }
 
 // Writes the path at the left end of a column.
-pub fn path_column(path: Path) {
-    say_path(path);
-    fill_up(PATH_WIDTH, path_width(path));
+pub fn path_column(rt: &impl Print, path: Path) {
+    say_path(rt, path);
+    fill_up(rt, PATH_WIDTH, path_width(path));
 }

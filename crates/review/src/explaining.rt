@@ -11,7 +11,7 @@ use records::requests::{RequestRead, read_request};
 use records::targets::Target;
 
 // The bindings whose numbers stand from the place `from` on, so many of them.
-fn explain_bindings(
+fn explain_bindings(rt: &impl Print, 
     table: &[u8],
     keys: &[u32],
     names: &[u32],
@@ -34,7 +34,7 @@ fn explain_bindings(
         };
         let i = value as usize;
         if i < names.len() {
-            recount_binding(table, keys, names, bindings, sheet, i);
+            recount_binding(rt, table, keys, names, bindings, sheet, i);
         }
         at = next;
         k = k + 1;
@@ -42,7 +42,7 @@ fn explain_bindings(
 }
 
 // Who asks for what, and which key that is.
-fn explain_request(
+fn explain_request(rt: &impl Print, 
     table: &[u8],
     keys: &[u32],
     names: &[u32],
@@ -61,21 +61,21 @@ fn explain_request(
     let subject = asked.subject;
     let owner = asked.owner;
     let wanted = asked.wanted;
-    say(b"Asked: ");
-    say_target(subject);
-    say_with(b", right ", wanted.right);
-    say_with(b" on object ", wanted.object);
-    say(b" of ");
-    say_space(keys, owner);
-    say(b"\n");
+    say(rt, b"Asked: ");
+    say_target(rt, subject);
+    say_with(rt, b", right ", wanted.right);
+    say_with(rt, b" on object ", wanted.object);
+    say(rt, b" of ");
+    say_space(rt, keys, owner);
+    say(rt, b"\n");
     let Target::Name(space, path) = subject else {
         return;
     };
-    say_way(keys, names, sheet, space, path);
+    say_way(rt, keys, names, sheet, space, path);
 }
 
 // The request, and the whole derivation.
-pub fn explain(
+pub fn explain(rt: &impl Print, 
     table: &[u8],
     keys: &[u32],
     names: &[u32],
@@ -88,7 +88,7 @@ pub fn explain(
 )
     requires { Opened table.now keys.now names.now bindings.now accesses.now delegations.now sheet.now }
 {
-    explain_request(
+    explain_request(rt, 
         table,
         keys,
         names,
@@ -102,8 +102,8 @@ pub fn explain(
     let DerivationRead::Derivation(parts) = read else {
         return;
     };
-    say(b"\nThe bindings that its names go through:\n");
-    explain_bindings(
+    say(rt, b"\nThe bindings that its names go through:\n");
+    explain_bindings(rt, 
         table,
         keys,
         names,
@@ -115,8 +115,8 @@ pub fn explain(
         parts.first,
         parts.bindings,
     );
-    say(b"\nIts chain:\n");
-    explain_chain(
+    say(rt, b"\nIts chain:\n");
+    explain_chain(rt, 
         table,
         keys,
         names,

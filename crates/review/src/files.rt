@@ -1,9 +1,13 @@
 // Files that words name.
+ghost use Rattle.std.specs.Prelude.{◌≡◌, length};
+ghost use Rattle.review.specs.Counts.{IsPrefixLen};
 ghost use Rattle.review.specs.Files.{Fits};
 
 use crate::answers::{NO_INPUT, NO_OUTPUT, say_answer};
 use crate::printing::say;
-use libc::STDOUT_FILENO;
+use std::fs;
+use std::io::{Read, Write};
+use std::rt::{Env, Files};
 
 // What was read stands at the start of a buffer: its first bytes, or nothing.
 #[derive(Clone, Copy)]
@@ -12,51 +16,92 @@ pub enum Part {
     Broken,
 }
 
+// 4,096 zeros, which hold any path.
+fn path_buffer() -> [u8; 4096]
+    ensures { 4096 ≡ length result }
+{
+    [0; 4096]
+}
+
+// 65,536 zeros, for a file.
+pub fn large_buffer() -> [u8; 65536]
+    ensures { 65536 ≡ length result }
+{
+    [0; 65536]
+}
+
+// Puts word number `i` at the start of the buffer and answers its length, or 0 where it is missing or longer than the buffer.
+fn word(rt: &impl Env, i: usize, buffer: &mut [u8]) -> usize
+    ensures { IsPrefixLen result buffer.new }
+{
+    match rt.arg(i, buffer) {
+        Ok(length) => length,
+        Err(_) => 0,
+    }
+}
+
 // Writes the word number `i`.
-fn say_word(i: usize) {
-    let mut word = io::buffer();
-    let length = os::arg(i, &mut word);
-    io::write_all(STDOUT_FILENO, &word[..length]);
+fn say_word(rt: &(impl Env + Print), i: usize) {
+    let mut text = path_buffer();
+    let length = word(rt, i, &mut text);
+    say(rt, &text[..length]);
 }
 
 // Says that the file that word number `i` names could not be used.
-fn failed(number: u32, why: &[u8], i: usize) {
-    say_answer(number);
-    say(why);
-    say_word(i);
-    say(b"\n");
+fn failed(rt: &(impl Env + Print), number: u32, why: &[u8], i: usize) {
+    say_answer(rt, number);
+    say(rt, why);
+    say_word(rt, i);
+    say(rt, b"\n");
+}
+
+// Reads until the buffer is full, the input ends or a read fails, and answers how many bytes it put at the start of the buffer.
+fn read_full(file: &mut impl Read, buffer: &mut [u8]) -> usize
+    ensures { IsPrefixLen result buffer.new }
+{
+    let mut done = 0;
+    while done < buffer.len() {
+        match file.read(&mut buffer[done..]) {
+            Ok(0) => break,
+            Ok(n) => done += n,
+            Err(_) => break,
+        }
+    }
+    done
 }
 
 // Reads the file that word number `i` names, as much of it as the buffer holds.
-pub fn read_file(i: usize, buffer: &mut [u8]) -> Part
+pub fn read_file(rt: &(impl Env + Files + Print), i: usize, buffer: &mut [u8]) -> Part
     ensures { Fits result buffer.new }
 {
-    let mut path = io::buffer();
-    let length = os::arg(i, &mut path);
-    let file = os::open_read(&path[..length]);
-    if file < 0 {
-        failed(NO_INPUT, b"cannot read ", i);
+    let mut path = path_buffer();
+    let length = word(rt, i, &mut path);
+    let Ok(name) = str::from_utf8(&path[..length]) else {
+        failed(rt, NO_INPUT, b"cannot read ", i);
         return Part::Broken;
-    }
-    let got = io::read_full(file, buffer);
-    libc::close(file);
-    Part::Whole(got)
+    };
+    let Ok(mut file) = fs::open(rt, name) else {
+        failed(rt, NO_INPUT, b"cannot read ", i);
+        return Part::Broken;
+    };
+    Part::Whole(read_full(&mut file, buffer))
 }
 
 // Writes the bytes to the file that word number `i` names, and says whether all of them are there.
-pub fn write_file(i: usize, bytes: &[u8]) -> bool {
-    let mut path = io::buffer();
-    let length = os::arg(i, &mut path);
-    let file = os::open_overwrite(&path[..length]);
-    if file < 0 {
-        failed(NO_OUTPUT, b"cannot write ", i);
+pub fn write_file(rt: &(impl Env + Files + Print), i: usize, bytes: &[u8]) -> bool {
+    let mut path = path_buffer();
+    let length = word(rt, i, &mut path);
+    let Ok(name) = str::from_utf8(&path[..length]) else {
+        failed(rt, NO_OUTPUT, b"cannot write ", i);
         return false;
-    }
-    let whole = io::write_all(file, bytes);
-    let closed = libc::close(file);
-    if whole && closed == 0 {
+    };
+    let Ok(mut file) = fs::create(rt, name) else {
+        failed(rt, NO_OUTPUT, b"cannot write ", i);
+        return false;
+    };
+    if file.write_all(bytes).is_ok() {
         return true;
     }
-    failed(NO_OUTPUT, b"cannot write all of ", i);
+    failed(rt, NO_OUTPUT, b"cannot write all of ", i);
     false
 }

@@ -3,11 +3,12 @@
 #![tactic(auto)]
 use crate::answers::{WRONG_USE, say_answer};
 use crate::asking::ask;
-use crate::files::{Part, read_file};
+use crate::files::{Part, large_buffer, read_file};
 use crate::opening::{Task, open};
 use crate::printing::say;
 use crate::words::is_word;
 use crate::writing::Form;
+use std::rt::{Env, Files};
 
 mod answers;
 mod asking;
@@ -29,56 +30,56 @@ mod words;
 mod writing;
 
 // review show TABLE: shows all records.
-fn show() {
-    let mut first = io::large_buffer();
-    let Part::Whole(table) = read_file(2, &mut first) else {
+fn show(rt: &(impl Env + Files + Print)) {
+    let mut first = large_buffer();
+    let Part::Whole(table) = read_file(rt, 2, &mut first) else {
         return;
     };
-    open(&first[..table], b"", b"", Task::Show);
+    open(rt, &first[..table], b"", b"", Task::Show);
 }
 
 // Answers a request by a table, or a key request by a key table.
-fn answer_by(table: &[u8], request: &[u8], form: Form) {
+fn answer_by(rt: &(impl Env + Files + Print), table: &[u8], request: &[u8], form: Form) {
     match form {
-        Form::Names => deciding::answer(table, request),
-        Form::Keys => key_deciding::answer(table, request),
+        Form::Names => deciding::answer(rt, table, request),
+        Form::Keys => key_deciding::answer(rt, table, request),
     }
 }
 
 // Reads the table and the request that the words from number `words` on say, and answers.
-fn decide(words: usize, form: Form) {
-    let mut first = io::large_buffer();
-    let Part::Whole(table) = read_file(2, &mut first) else {
+fn decide(rt: &(impl Env + Files + Print), words: usize, form: Form) {
+    let mut first = large_buffer();
+    let Part::Whole(table) = read_file(rt, 2, &mut first) else {
         return;
     };
-    let mut second = io::large_buffer();
-    let Part::Whole(request) = ask(&mut second, words, form) else {
+    let mut second = large_buffer();
+    let Part::Whole(request) = ask(rt, &mut second, words, form) else {
         return;
     };
-    answer_by(&first[..table], &second[..request], form);
+    answer_by(rt, &first[..table], &second[..request], form);
 }
 
-fn main() {
-    if is_word(1, b"decide") {
-        decide(4, Form::Names);
+fn main(rt: HostRuntime) {
+    if is_word(&rt, 1, b"decide") {
+        decide(&rt, 4, Form::Names);
         return;
     }
-    if is_word(1, b"check") {
-        checking::run();
+    if is_word(&rt, 1, b"check") {
+        checking::run(&rt);
         return;
     }
-    if is_word(1, b"translate") {
-        translating::run();
+    if is_word(&rt, 1, b"translate") {
+        translating::run(&rt);
         return;
     }
-    if is_word(1, b"decide-by-keys") {
-        decide(3, Form::Keys);
+    if is_word(&rt, 1, b"decide-by-keys") {
+        decide(&rt, 3, Form::Keys);
         return;
     }
-    if is_word(1, b"show") {
-        show();
+    if is_word(&rt, 1, b"show") {
+        show(&rt);
         return;
     }
-    say_answer(WRONG_USE);
-    say(b"no such command; './review help' has the words\n");
+    say_answer(&rt, WRONG_USE);
+    say(&rt, b"no such command; './review help' has the words\n");
 }

@@ -18,7 +18,7 @@ pub enum Task {
 }
 
 // Fills the sheet of a table that was found good, and tells of it.
-fn open_good(
+fn open_good(rt: &impl Print, 
     table: &[u8],
     keys: &[u32],
     names: &[u32],
@@ -38,7 +38,7 @@ fn open_good(
         table, keys, names, bindings, &mut sheet, &mut order, &mut waits,
     );
     match task {
-        Task::Explain => explain(
+        Task::Explain => explain(rt, 
             table,
             keys,
             names,
@@ -49,12 +49,12 @@ fn open_good(
             request,
             derivation,
         ),
-        Task::Show => show(table, keys, names, bindings, accesses, delegations, &sheet),
+        Task::Show => show(rt, table, keys, names, bindings, accesses, delegations, &sheet),
     }
 }
 
 // Opens the table, and tells of it, or says its fault.
-pub fn open(table: &[u8], request: &[u8], derivation: &[u8], task: Task) {
+pub fn open(rt: &impl Print, table: &[u8], request: &[u8], derivation: &[u8], task: Task) {
     let mut keys = [0; 64];
     let mut names = [0; 256];
     let mut bindings = [0; 256];
@@ -77,7 +77,7 @@ pub fn open(table: &[u8], request: &[u8], derivation: &[u8], task: Task) {
             let b = bound.count;
             let c = listed.count;
             let d = written.count;
-            open_good(
+            open_good(rt, 
                 table,
                 &keys[..a],
                 &names[..b],
@@ -89,6 +89,6 @@ pub fn open(table: &[u8], request: &[u8], derivation: &[u8], task: Task) {
                 task,
             );
         }
-        Loaded::Bad(fault) => say_refusal(of_fault(fault)),
+        Loaded::Bad(fault) => say_refusal(rt, of_fault(fault)),
     }
 }

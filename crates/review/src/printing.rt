@@ -1,25 +1,24 @@
-// Text and numbers on standard output.
-use libc::STDOUT_FILENO;
+// Text and numbers on standard output. What cannot be written is left out, and the program goes on.
 
 // Writes the text.
-pub fn say(text: &[u8]) {
-    io::write_all(STDOUT_FILENO, text);
+pub fn say(rt: &impl Print, text: &[u8]) {
+    let _ = rt.write_all(text);
 }
 
 // Writes the number.
-pub fn say_number(number: u32) {
-    io::print_decimal(STDOUT_FILENO, number as u64);
+pub fn say_number(rt: &impl Print, number: u32) {
+    let _ = rt.print(number);
 }
 
 // Writes the count, the place or the record's number.
-pub fn say_count(count: usize) {
-    io::print_decimal(STDOUT_FILENO, count as u64);
+pub fn say_count(rt: &impl Print, count: usize) {
+    let _ = rt.print(count);
 }
 
 // Writes the text and the number.
-pub fn say_with(text: &[u8], number: u32) {
-    say(text);
-    say_number(number);
+pub fn say_with(rt: &impl Print, text: &[u8], number: u32) {
+    say(rt, text);
+    say_number(rt, number);
 }
 
 // The byte, as a wider number.
@@ -28,11 +27,12 @@ fn wide(byte: u8) -> u64 {
 }
 
 // Writes the bytes, each as two digits of base 16.
-pub fn say_bytes(bytes: &[u8]) {
+pub fn say_bytes(rt: &impl Print, bytes: &[u8]) {
     let mut i = 0;
     while i < bytes.len() {
-        say(b" ");
-        io::print_hex(STDOUT_FILENO, wide(bytes[i]), 2);
+        say(rt, b" ");
+        let byte = wide(bytes[i]);
+        let _ = print!(rt; "{byte:02x}");
         i = i + 1;
     }
 }

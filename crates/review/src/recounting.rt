@@ -21,17 +21,17 @@ pub enum Recounted {
 }
 
 // What a sheet's entry means.
-fn say_entry(entry: u32) {
+fn say_entry(rt: &impl Print, entry: u32) {
     if entry == 0 {
-        say(b", which has no meaning\n");
+        say(rt, b", which has no meaning\n");
         return;
     }
-    say_with(b", which means key ", entry);
-    say(b"\n");
+    say_with(rt, b", which means key ", entry);
+    say(rt, b"\n");
 }
 
 // Binding number `i`: the name that it binds, its target, and the key that this means.
-pub fn recount_binding(
+pub fn recount_binding(rt: &impl Print, 
     table: &[u8],
     keys: &[u32],
     names: &[u32],
@@ -48,30 +48,30 @@ pub fn recount_binding(
     let space = binding.space;
     let base = binding.base;
     let target = binding.target;
-    say(b"  binding ");
-    say_count(i);
-    say(b": space ");
-    say_count(space.0);
-    say_with(b" binds ", base);
-    say(b" to ");
-    say_target(target);
-    say_entry(sheet[i]);
+    say(rt, b"  binding ");
+    say_count(rt, i);
+    say(rt, b": space ");
+    say_count(rt, space.0);
+    say_with(rt, b" binds ", base);
+    say(rt, b" to ");
+    say_target(rt, target);
+    say_entry(rt, sheet[i]);
 }
 
 // What a record is for.
-fn say_use(wanted: Use) {
-    say_with(b" right ", wanted.right);
-    say_with(b" on object ", wanted.object);
+fn say_use(rt: &impl Print, wanted: Use) {
+    say_with(rt, b" right ", wanted.right);
+    say_with(rt, b" on object ", wanted.object);
 }
 
 // The depth that a record says.
-fn say_depth(depth: Depth) {
-    say_with(b", depth ", depth.number());
-    say(b"\n");
+fn say_depth(rt: &impl Print, depth: Depth) {
+    say_with(rt, b", depth ", depth.number());
+    say(rt, b"\n");
 }
 
 // Access record number `i`: whose list it is in, what it gives and to which name, and which key that means.
-pub fn recount_access(
+pub fn recount_access(rt: &impl Print, 
     table: &[u8],
     keys: &[u32],
     names: &[u32],
@@ -90,20 +90,20 @@ pub fn recount_access(
     let path = access.path;
     let wanted = access.wanted;
     let depth = access.depth;
-    say(b"  access record ");
-    say_count(i);
-    say(b": ");
-    say_space(keys, owner);
-    say(b" gives its name ");
-    say_path(path);
-    say_use(wanted);
-    say_depth(depth);
-    say_way(keys, names, sheet, owner, path);
+    say(rt, b"  access record ");
+    say_count(rt, i);
+    say(rt, b": ");
+    say_space(rt, keys, owner);
+    say(rt, b" gives its name ");
+    say_path(rt, path);
+    say_use(rt, wanted);
+    say_depth(rt, depth);
+    say_way(rt, keys, names, sheet, owner, path);
     Recounted::Depth(depth)
 }
 
 // Delegation number `j`: who wrote it, whose object it is for, what it gives and to which name, and which keys these mean.
-pub fn recount_delegation(
+pub fn recount_delegation(rt: &impl Print, 
     table: &[u8],
     keys: &[u32],
     names: &[u32],
@@ -123,17 +123,17 @@ pub fn recount_delegation(
     let path = delegation.delegatee;
     let wanted = delegation.wanted;
     let depth = delegation.depth;
-    say(b"  delegation ");
-    say_count(j);
-    say(b": ");
-    say_space(keys, writer);
-    say(b" hands its name ");
-    say_path(path);
-    say_use(wanted);
-    say(b" of its name ");
-    say_path(owner);
-    say_depth(depth);
-    say_way(keys, names, sheet, writer, owner);
-    say_way(keys, names, sheet, writer, path);
+    say(rt, b"  delegation ");
+    say_count(rt, j);
+    say(rt, b": ");
+    say_space(rt, keys, writer);
+    say(rt, b" hands its name ");
+    say_path(rt, path);
+    say_use(rt, wanted);
+    say(rt, b" of its name ");
+    say_path(rt, owner);
+    say_depth(rt, depth);
+    say_way(rt, keys, names, sheet, writer, owner);
+    say_way(rt, keys, names, sheet, writer, path);
     Recounted::Depth(depth)
 }

@@ -22,19 +22,19 @@ fn key_of(found: Followed) -> u32 {
 }
 
 // The spaces, each with its key.
-fn show_spaces(keys: &[u32]) {
-    say(b"  space         key\n");
+fn show_spaces(rt: &impl Print, keys: &[u32]) {
+    say(rt, b"  space         key\n");
     let mut i = 0;
     while i < keys.len() {
-        column(7, i);
-        key_column(12, keys[i]);
-        say(b"\n");
+        column(rt, 7, i);
+        key_column(rt, 12, keys[i]);
+        say(rt, b"\n");
         i = i + 1;
     }
 }
 
 // Binding number `i`.
-fn show_binding(
+fn show_binding(rt: &impl Print, 
     table: &[u8],
     keys: &[u32],
     names: &[u32],
@@ -53,17 +53,17 @@ fn show_binding(
     let space = binding.space;
     let base = binding.base;
     let target = binding.target;
-    column(9, i);
-    column(7, space.0);
-    column(7, base as usize);
-    key_column(12, sheet[i]);
-    say(b"  ");
-    say_target(target);
-    say(b"\n");
+    column(rt, 9, i);
+    column(rt, 7, space.0);
+    column(rt, 7, base as usize);
+    key_column(rt, 12, sheet[i]);
+    say(rt, b"  ");
+    say_target(rt, target);
+    say(rt, b"\n");
 }
 
 // The bindings.
-fn show_bindings(
+fn show_bindings(rt: &impl Print, 
     table: &[u8],
     keys: &[u32],
     names: &[u32],
@@ -74,10 +74,10 @@ fn show_bindings(
 )
     requires { Opened table.now keys.now names.now bindings.now accesses.now delegations.now sheet.now }
 {
-    say(b"\n  binding  space   name         key  target\n");
+    say(rt, b"\n  binding  space   name         key  target\n");
     let mut i = 0;
     while i < names.len() {
-        show_binding(
+        show_binding(rt, 
             table,
             keys,
             names,
@@ -92,7 +92,7 @@ fn show_bindings(
 }
 
 // Access record number `i`.
-fn show_access(
+fn show_access(rt: &impl Print, 
     table: &[u8],
     keys: &[u32],
     names: &[u32],
@@ -113,19 +113,19 @@ fn show_access(
     let wanted = access.wanted;
     let depth = access.depth;
     let key = key_of(follow_name(keys, names, sheet, owner, path));
-    column(15, i);
-    column(7, owner.0);
-    column(8, wanted.object as usize);
-    column(7, wanted.right as usize);
-    column(7, depth.number() as usize);
-    key_column(12, key);
-    say(b"  ");
-    say_path(path);
-    say(b"\n");
+    column(rt, 15, i);
+    column(rt, 7, owner.0);
+    column(rt, 8, wanted.object as usize);
+    column(rt, 7, wanted.right as usize);
+    column(rt, 7, depth.number() as usize);
+    key_column(rt, 12, key);
+    say(rt, b"  ");
+    say_path(rt, path);
+    say(rt, b"\n");
 }
 
 // The access records.
-fn show_accesses(
+fn show_accesses(rt: &impl Print, 
     table: &[u8],
     keys: &[u32],
     names: &[u32],
@@ -136,10 +136,10 @@ fn show_accesses(
 )
     requires { Opened table.now keys.now names.now bindings.now accesses.now delegations.now sheet.now }
 {
-    say(b"\n  access record  owner  object  right  depth         key  name\n");
+    say(rt, b"\n  access record  owner  object  right  depth         key  name\n");
     let mut i = 0;
     while i < accesses.len() {
-        show_access(
+        show_access(rt, 
             table,
             keys,
             names,
@@ -154,7 +154,7 @@ fn show_accesses(
 }
 
 // Delegation number `j`.
-fn show_delegation(
+fn show_delegation(rt: &impl Print, 
     table: &[u8],
     keys: &[u32],
     names: &[u32],
@@ -177,22 +177,22 @@ fn show_delegation(
     let depth = delegation.depth;
     let owner_key = key_of(follow_name(keys, names, sheet, writer, owner));
     let key = key_of(follow_name(keys, names, sheet, writer, path));
-    column(12, j);
-    column(8, writer.0);
-    column(8, wanted.object as usize);
-    column(7, wanted.right as usize);
-    column(7, depth.number() as usize);
-    key_column(12, owner_key);
-    key_column(12, key);
-    say(b"  ");
-    path_column(owner);
-    say(b"  ");
-    say_path(path);
-    say(b"\n");
+    column(rt, 12, j);
+    column(rt, 8, writer.0);
+    column(rt, 8, wanted.object as usize);
+    column(rt, 7, wanted.right as usize);
+    column(rt, 7, depth.number() as usize);
+    key_column(rt, 12, owner_key);
+    key_column(rt, 12, key);
+    say(rt, b"  ");
+    path_column(rt, owner);
+    say(rt, b"  ");
+    say_path(rt, path);
+    say(rt, b"\n");
 }
 
 // The delegations.
-fn show_delegations(
+fn show_delegations(rt: &impl Print, 
     table: &[u8],
     keys: &[u32],
     names: &[u32],
@@ -203,12 +203,12 @@ fn show_delegations(
 )
     requires { Opened table.now keys.now names.now bindings.now accesses.now delegations.now sheet.now }
 {
-    say(
+    say(rt, 
         b"\n  delegation  writer  object  right  depth   owner key         key  owner                    name\n",
     );
     let mut i = 0;
     while i < delegations.len() {
-        show_delegation(
+        show_delegation(rt, 
             table,
             keys,
             names,
@@ -223,7 +223,7 @@ fn show_delegations(
 }
 
 // The whole table.
-pub fn show(
+pub fn show(rt: &impl Print, 
     table: &[u8],
     keys: &[u32],
     names: &[u32],
@@ -234,9 +234,9 @@ pub fn show(
 )
     requires { Opened table.now keys.now names.now bindings.now accesses.now delegations.now sheet.now }
 {
-    say_answer(DONE);
-    show_spaces(keys);
-    show_bindings(table, keys, names, bindings, accesses, delegations, sheet);
-    show_accesses(table, keys, names, bindings, accesses, delegations, sheet);
-    show_delegations(table, keys, names, bindings, accesses, delegations, sheet);
+    say_answer(rt, DONE);
+    show_spaces(rt, keys);
+    show_bindings(rt, table, keys, names, bindings, accesses, delegations, sheet);
+    show_accesses(rt, table, keys, names, bindings, accesses, delegations, sheet);
+    show_delegations(rt, table, keys, names, bindings, accesses, delegations, sheet);
 }

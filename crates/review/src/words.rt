@@ -2,6 +2,9 @@
 ghost use Rattle.std.specs.Prelude.{◌≡◌};
 ghost use Rattle.review.specs.Words.{number_said, alike};
 
+use std::env::FillError;
+use std::rt::Env;
+
 // What a word says where a number is to stand.
 #[derive(Clone, Copy)]
 pub enum Word {
@@ -28,13 +31,23 @@ fn same(first: &[u8], second: &[u8]) -> bool
     true
 }
 
-// Whether word number `i` is this text.
-pub fn is_word(i: usize, text: &[u8]) -> bool {
+// How many words there are, the program's own name among them.
+pub fn word_count(rt: &impl Env) -> usize {
     let mut word = [0u8; 16];
-    let length = os::arg(i, &mut word);
-    if os::errno() != 0 {
-        return false;
+    for i in 0..usize::MAX {
+        if let Err(FillError::NotPresent) = rt.arg(i, &mut word) {
+            return i;
+        }
     }
+    usize::MAX
+}
+
+// Whether word number `i` is this text.
+pub fn is_word(rt: &impl Env, i: usize, text: &[u8]) -> bool {
+    let mut word = [0u8; 16];
+    let Ok(length) = rt.arg(i, &mut word) else {
+        return false;
+    };
     same(&word[..length], text)
 }
 
@@ -72,11 +85,10 @@ fn read_digits(digits: &[u8]) -> Word
 }
 
 // The number that word number `i` says.
-pub fn number_word(i: usize) -> Word {
+pub fn number_word(rt: &impl Env, i: usize) -> Word {
     let mut word = [0u8; 16];
-    let length = os::arg(i, &mut word);
-    if os::errno() != 0 {
+    let Ok(length) = rt.arg(i, &mut word) else {
         return Word::Not;
-    }
+    };
     read_digits(&word[..length])
 }

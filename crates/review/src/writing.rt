@@ -2,6 +2,7 @@
 ghost use Rattle.review.specs.Writing.{PutFits};
 
 use crate::words::{Word, is_word, number_word};
+use std::rt::Env;
 
 // The place after what was written, unless a word said no number or there is no more room.
 #[derive(Clone, Copy)]
@@ -40,10 +41,10 @@ fn put_number(out: &mut [u8], at: usize, value: u32) -> Put
 }
 
 // Writes the number that word number `i` says at the place `at`.
-fn put_word(out: &mut [u8], at: usize, i: usize) -> Put
+fn put_word(rt: &impl Env, out: &mut [u8], at: usize, i: usize) -> Put
     ensures { PutFits result out.new }
 {
-    let word = number_word(i);
+    let word = number_word(rt, i);
     let Word::Number(value) = word else {
         return Put::Not;
     };
@@ -51,11 +52,11 @@ fn put_word(out: &mut [u8], at: usize, i: usize) -> Put
 }
 
 // Writes the numbers that the words from number `first` to before `end` say.
-fn put_words(out: &mut [u8], from: usize, first: usize, end: usize) -> Put {
+fn put_words(rt: &impl Env, out: &mut [u8], from: usize, first: usize, end: usize) -> Put {
     let mut at = from;
     let mut i = first;
     while i < end {
-        let put = put_word(out, at, i);
+        let put = put_word(rt, out, at, i);
         let Put::Next(next) = put else {
             return Put::Not;
         };
@@ -66,7 +67,7 @@ fn put_words(out: &mut [u8], from: usize, first: usize, end: usize) -> Put {
 }
 
 // Writes a name: the words `S B1 B2 ..` from number `first` to before `end`.
-fn put_name(out: &mut [u8], first: usize, end: usize) -> Put {
+fn put_name(rt: &impl Env, out: &mut [u8], first: usize, end: usize) -> Put {
     if end <= first {
         return Put::Not;
     }
@@ -78,7 +79,7 @@ fn put_name(out: &mut [u8], first: usize, end: usize) -> Put {
     let Put::Next(at1) = form else {
         return Put::Not;
     };
-    let space = put_word(out, at1, first);
+    let space = put_word(rt, out, at1, first);
     let Put::Next(at2) = space else {
         return Put::Not;
     };
@@ -86,11 +87,11 @@ fn put_name(out: &mut [u8], first: usize, end: usize) -> Put {
     let Put::Next(at3) = count else {
         return Put::Not;
     };
-    put_words(out, at3, first + 1, end)
+    put_words(rt, out, at3, first + 1, end)
 }
 
 // Writes a key: the word `K`, number `first`, and no other before `end`.
-fn put_key(out: &mut [u8], first: usize, end: usize) -> Put {
+fn put_key(rt: &impl Env, out: &mut [u8], first: usize, end: usize) -> Put {
     if end <= first {
         return Put::Not;
     }
@@ -101,66 +102,66 @@ fn put_key(out: &mut [u8], first: usize, end: usize) -> Put {
     let Put::Next(at) = form else {
         return Put::Not;
     };
-    put_word(out, at, first)
+    put_word(rt, out, at, first)
 }
 
 // Writes the subject: `key K`, or `name S B1 B2 ..`, in the words from number `first` to before `end`.
-fn put_subject(out: &mut [u8], first: usize, end: usize) -> Put {
+fn put_subject(rt: &impl Env, out: &mut [u8], first: usize, end: usize) -> Put {
     if end <= first {
         return Put::Not;
     }
-    if is_word(first, b"key") {
-        return put_key(out, first + 1, end);
+    if is_word(rt, first, b"key") {
+        return put_key(rt, out, first + 1, end);
     }
-    if is_word(first, b"name") {
-        return put_name(out, first + 1, end);
+    if is_word(rt, first, b"name") {
+        return put_name(rt, out, first + 1, end);
     }
     Put::Not
 }
 
 // Writes the owner, the object and the right: the last six words before `end`, `owner S object O right R`.
-fn put_wanted(out: &mut [u8], at: usize, end: usize) -> Put
+fn put_wanted(rt: &impl Env, out: &mut [u8], at: usize, end: usize) -> Put
     ensures { PutFits result out.new }
 {
     if end < LAST_WORDS {
         return Put::Not;
     }
-    if !is_word(end - 6, b"owner") {
+    if !is_word(rt, end - 6, b"owner") {
         return Put::Not;
     }
-    if !is_word(end - 4, b"object") {
+    if !is_word(rt, end - 4, b"object") {
         return Put::Not;
     }
-    if !is_word(end - 2, b"right") {
+    if !is_word(rt, end - 2, b"right") {
         return Put::Not;
     }
-    let owner = put_word(out, at, end - 5);
+    let owner = put_word(rt, out, at, end - 5);
     let Put::Next(at1) = owner else {
         return Put::Not;
     };
-    let object = put_word(out, at1, end - 3);
+    let object = put_word(rt, out, at1, end - 3);
     let Put::Next(at2) = object else {
         return Put::Not;
     };
-    put_word(out, at2, end - 1)
+    put_word(rt, out, at2, end - 1)
 }
 
 // Writes the request that the words from number `first` to before `end` say.
-fn put_request(out: &mut [u8], first: usize, end: usize) -> Put
+fn put_request(rt: &impl Env, out: &mut [u8], first: usize, end: usize) -> Put
     ensures { PutFits result out.new }
 {
     if end < LAST_WORDS {
         return Put::Not;
     }
-    let subject = put_subject(out, first, end - LAST_WORDS);
+    let subject = put_subject(rt, out, first, end - LAST_WORDS);
     let Put::Next(at) = subject else {
         return Put::Not;
     };
-    put_wanted(out, at, end)
+    put_wanted(rt, out, at, end)
 }
 
 // Writes the key request that the words from number `first` to before `end` say.
-fn put_key_request(out: &mut [u8], first: usize, end: usize) -> Put
+fn put_key_request(rt: &impl Env, out: &mut [u8], first: usize, end: usize) -> Put
     ensures { PutFits result out.new }
 {
     if end <= first {
@@ -169,22 +170,22 @@ fn put_key_request(out: &mut [u8], first: usize, end: usize) -> Put
     if end - first != LAST_WORDS + 2 {
         return Put::Not;
     }
-    if !is_word(first, b"key") {
+    if !is_word(rt, first, b"key") {
         return Put::Not;
     }
-    let subject = put_word(out, 0, first + 1);
+    let subject = put_word(rt, out, 0, first + 1);
     let Put::Next(at) = subject else {
         return Put::Not;
     };
-    put_wanted(out, at, end)
+    put_wanted(rt, out, at, end)
 }
 
 // Writes what the words say, in the form that is asked for.
-pub fn put_asked(out: &mut [u8], first: usize, end: usize, form: Form) -> Put
+pub fn put_asked(rt: &impl Env, out: &mut [u8], first: usize, end: usize, form: Form) -> Put
     ensures { PutFits result out.new }
 {
     match form {
-        Form::Names => put_request(out, first, end),
-        Form::Keys => put_key_request(out, first, end),
+        Form::Names => put_request(rt, out, first, end),
+        Form::Keys => put_key_request(rt, out, first, end),
     }
 }

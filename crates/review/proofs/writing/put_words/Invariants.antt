@@ -1,0 +1,6 @@
+-- The buffer stays as long as it was, and the words that are left get fewer.
+use Prim.Native.Nat.{◌-◌}
+use Rattle.review.proofs.writing.put_words.Given as goal
+
+abbrev pub decreases-loop-i : goal.decreases-loop-i
+decreases-loop-i g l = l.end - l.i
