@@ -32,17 +32,35 @@ fn say_meaning(rt: &impl Print, number: u32) {
     match number {
         1 => say(rt, b"the table is over its byte limit."),
         2 => say(rt, b"the table ends before a number is whole."),
-        3 => say(rt, b"a number is not in its shortest form, or is too large."),
-        4 => say(rt, b"a number is outside its field; a count is a number too."),
-        5 => say(rt, b"a second space has this key, or a space binds this base name a second time."),
+        3 => say(
+            rt,
+            b"a number is not in its shortest form, or is too large.",
+        ),
+        4 => say(
+            rt,
+            b"a number is outside its field; a count is a number too.",
+        ),
+        5 => say(
+            rt,
+            b"a second space has this key, or a space binds this base name a second time.",
+        ),
         6 => say(rt, b"bytes follow the last record."),
         7 => say(rt, b"the first number is not the version of such a table."),
-        8 => say(rt, b"the request is not well formed, or names a space that the table does not have."),
+        8 => say(
+            rt,
+            b"the request is not well formed, or names a space that the table does not have.",
+        ),
         9 => say(rt, b"a buffer for the output is short."),
         10 => say(rt, b"the subject's name has no meaning."),
         11 => say(rt, b"the subject has a meaning, but no access."),
-        12 => say(rt, b"it is malformed, or does not hold in this table for this request."),
-        _ => say(rt, b"access is there, but the derivation found does not fit in 512 bytes."),
+        12 => say(
+            rt,
+            b"it is malformed, or does not hold in this table for this request.",
+        ),
+        _ => say(
+            rt,
+            b"access is there, but the derivation found does not fit in 512 bytes.",
+        ),
     }
 }
 

@@ -11,7 +11,10 @@ use std::rt::{Env, Files};
 // Says that the words say no request.
 fn wrong_words(rt: &impl Print) {
     say_answer(rt, WRONG_USE);
-    say(rt, b"these words say no request; './review help' has the words\n");
+    say(
+        rt,
+        b"these words say no request; './review help' has the words\n",
+    );
 }
 
 // The request that the words from number `first` on say, or the file that the only one of them names.

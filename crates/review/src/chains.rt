@@ -24,7 +24,8 @@ fn step(before: Depth, by: Depth) -> Recounted
 }
 
 // Delegation number `j` as a step from the depth `before`; answers the depth after it.
-fn explain_step(rt: &impl Print, 
+fn explain_step(
+    rt: &impl Print,
     table: &[u8],
     keys: &[u32],
     names: &[u32],
@@ -53,7 +54,8 @@ fn explain_step(rt: &impl Print,
 }
 
 // The delegations whose numbers stand from the place `from` on, so many of them, as steps from the depth `start`.
-fn explain_steps(rt: &impl Print, 
+fn explain_steps(
+    rt: &impl Print,
     table: &[u8],
     keys: &[u32],
     names: &[u32],
@@ -77,7 +79,8 @@ fn explain_steps(rt: &impl Print,
             return;
         };
         let j = value as usize;
-        let step = explain_step(rt, 
+        let step = explain_step(
+            rt,
             table,
             keys,
             names,
@@ -98,7 +101,8 @@ fn explain_steps(rt: &impl Print,
 }
 
 // The chain whose access record's number stands at the place `at`, with so many delegations.
-pub fn explain_chain(rt: &impl Print, 
+pub fn explain_chain(
+    rt: &impl Print,
     table: &[u8],
     keys: &[u32],
     names: &[u32],
@@ -125,7 +129,8 @@ pub fn explain_chain(rt: &impl Print,
         return;
     };
     say_depth(rt, depth);
-    explain_steps(rt, 
+    explain_steps(
+        rt,
         table,
         keys,
         names,

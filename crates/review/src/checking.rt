@@ -36,5 +36,10 @@ pub fn run(rt: &(impl Env + Files + Print)) {
     let Part::Whole(request) = ask(rt, &mut third, 4, Form::Names) else {
         return;
     };
-    answer(rt, &first[..table], &third[..request], &second[..derivation]);
+    answer(
+        rt,
+        &first[..table],
+        &third[..request],
+        &second[..derivation],
+    );
 }

@@ -17,7 +17,13 @@ fn save(rt: &(impl Env + Files + Print), derivation: &[u8]) -> bool {
 }
 
 // Tells a grant.
-fn grant(rt: &(impl Env + Files + Print), table: &[u8], request: &[u8], depth: u32, derivation: &[u8]) {
+fn grant(
+    rt: &(impl Env + Files + Print),
+    table: &[u8],
+    request: &[u8],
+    depth: u32,
+    derivation: &[u8],
+) {
     if !save(rt, derivation) {
         return;
     }

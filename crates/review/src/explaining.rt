@@ -11,7 +11,8 @@ use records::requests::{RequestRead, read_request};
 use records::targets::Target;
 
 // The bindings whose numbers stand from the place `from` on, so many of them.
-fn explain_bindings(rt: &impl Print, 
+fn explain_bindings(
+    rt: &impl Print,
     table: &[u8],
     keys: &[u32],
     names: &[u32],
@@ -42,7 +43,8 @@ fn explain_bindings(rt: &impl Print,
 }
 
 // Who asks for what, and which key that is.
-fn explain_request(rt: &impl Print, 
+fn explain_request(
+    rt: &impl Print,
     table: &[u8],
     keys: &[u32],
     names: &[u32],
@@ -75,7 +77,8 @@ fn explain_request(rt: &impl Print,
 }
 
 // The request, and the whole derivation.
-pub fn explain(rt: &impl Print, 
+pub fn explain(
+    rt: &impl Print,
     table: &[u8],
     keys: &[u32],
     names: &[u32],
@@ -88,7 +91,8 @@ pub fn explain(rt: &impl Print,
 )
     requires { Opened table.now keys.now names.now bindings.now accesses.now delegations.now sheet.now }
 {
-    explain_request(rt, 
+    explain_request(
+        rt,
         table,
         keys,
         names,
@@ -103,7 +107,8 @@ pub fn explain(rt: &impl Print,
         return;
     };
     say(rt, b"\nThe bindings that its names go through:\n");
-    explain_bindings(rt, 
+    explain_bindings(
+        rt,
         table,
         keys,
         names,
@@ -116,7 +121,8 @@ pub fn explain(rt: &impl Print,
         parts.bindings,
     );
     say(rt, b"\nIts chain:\n");
-    explain_chain(rt, 
+    explain_chain(
+        rt,
         table,
         keys,
         names,

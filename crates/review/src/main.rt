@@ -1,6 +1,7 @@
 // review COMMAND WORDS: answers with the kernel, and says in words why. The first line that it writes is the answer's number,
 // or 64 for words that say nothing, 66 for a file that cannot be read, 73 for one that cannot be written.
 #![tactic(auto)]
+
 use crate::answers::{WRONG_USE, say_answer};
 use crate::asking::ask;
 use crate::files::{Part, large_buffer, read_file};

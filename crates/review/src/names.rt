@@ -59,7 +59,14 @@ pub fn say_space(rt: &impl Print, keys: &[u32], space: Space)
 }
 
 // Follows one name from the key, and says the binding that it goes through, or why there is none.
-fn go_on(rt: &impl Print, keys: &[u32], names: &[u32], sheet: &[u32], from: Key, base: u32) -> Followed
+fn go_on(
+    rt: &impl Print,
+    keys: &[u32],
+    names: &[u32],
+    sheet: &[u32],
+    from: Key,
+    base: u32,
+) -> Followed
     requires { (length keys.now ≤ most_spaces) × (length names.now ≤ length sheet.now) × (base < 65536) }
 {
     let home = find_space(keys, from);
@@ -101,7 +108,14 @@ fn go_through(rt: &impl Print, keys: &[u32], names: &[u32], sheet: &[u32], from:
 }
 
 // A line of the name: from its space's key, the bindings that it goes through and the keys that they mean.
-pub fn say_way(rt: &impl Print, keys: &[u32], names: &[u32], sheet: &[u32], space: Space, path: Path)
+pub fn say_way(
+    rt: &impl Print,
+    keys: &[u32],
+    names: &[u32],
+    sheet: &[u32],
+    space: Space,
+    path: Path,
+)
     requires { (length keys.now ≤ most_spaces) × (length names.now ≤ length sheet.now) × (space.0 < length keys.now) × Fitting path }
 {
     let number = space.0;

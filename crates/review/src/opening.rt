@@ -18,7 +18,8 @@ pub enum Task {
 }
 
 // Fills the sheet of a table that was found good, and tells of it.
-fn open_good(rt: &impl Print, 
+fn open_good(
+    rt: &impl Print,
     table: &[u8],
     keys: &[u32],
     names: &[u32],
@@ -38,7 +39,8 @@ fn open_good(rt: &impl Print,
         table, keys, names, bindings, &mut sheet, &mut order, &mut waits,
     );
     match task {
-        Task::Explain => explain(rt, 
+        Task::Explain => explain(
+            rt,
             table,
             keys,
             names,
@@ -49,7 +51,16 @@ fn open_good(rt: &impl Print,
             request,
             derivation,
         ),
-        Task::Show => show(rt, table, keys, names, bindings, accesses, delegations, &sheet),
+        Task::Show => show(
+            rt,
+            table,
+            keys,
+            names,
+            bindings,
+            accesses,
+            delegations,
+            &sheet,
+        ),
     }
 }
 
@@ -77,7 +88,8 @@ pub fn open(rt: &impl Print, table: &[u8], request: &[u8], derivation: &[u8], ta
             let b = bound.count;
             let c = listed.count;
             let d = written.count;
-            open_good(rt, 
+            open_good(
+                rt,
                 table,
                 &keys[..a],
                 &names[..b],

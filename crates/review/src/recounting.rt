@@ -31,7 +31,8 @@ fn say_entry(rt: &impl Print, entry: u32) {
 }
 
 // Binding number `i`: the name that it binds, its target, and the key that this means.
-pub fn recount_binding(rt: &impl Print, 
+pub fn recount_binding(
+    rt: &impl Print,
     table: &[u8],
     keys: &[u32],
     names: &[u32],
@@ -71,7 +72,8 @@ fn say_depth(rt: &impl Print, depth: Depth) {
 }
 
 // Access record number `i`: whose list it is in, what it gives and to which name, and which key that means.
-pub fn recount_access(rt: &impl Print, 
+pub fn recount_access(
+    rt: &impl Print,
     table: &[u8],
     keys: &[u32],
     names: &[u32],
@@ -103,7 +105,8 @@ pub fn recount_access(rt: &impl Print,
 }
 
 // Delegation number `j`: who wrote it, whose object it is for, what it gives and to which name, and which keys these mean.
-pub fn recount_delegation(rt: &impl Print, 
+pub fn recount_delegation(
+    rt: &impl Print,
     table: &[u8],
     keys: &[u32],
     names: &[u32],

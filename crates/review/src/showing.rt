@@ -34,7 +34,8 @@ fn show_spaces(rt: &impl Print, keys: &[u32]) {
 }
 
 // Binding number `i`.
-fn show_binding(rt: &impl Print, 
+fn show_binding(
+    rt: &impl Print,
     table: &[u8],
     keys: &[u32],
     names: &[u32],
@@ -63,7 +64,8 @@ fn show_binding(rt: &impl Print,
 }
 
 // The bindings.
-fn show_bindings(rt: &impl Print, 
+fn show_bindings(
+    rt: &impl Print,
     table: &[u8],
     keys: &[u32],
     names: &[u32],
@@ -77,7 +79,8 @@ fn show_bindings(rt: &impl Print,
     say(rt, b"\n  binding  space   name         key  target\n");
     let mut i = 0;
     while i < names.len() {
-        show_binding(rt, 
+        show_binding(
+            rt,
             table,
             keys,
             names,
@@ -92,7 +95,8 @@ fn show_bindings(rt: &impl Print,
 }
 
 // Access record number `i`.
-fn show_access(rt: &impl Print, 
+fn show_access(
+    rt: &impl Print,
     table: &[u8],
     keys: &[u32],
     names: &[u32],
@@ -125,7 +129,8 @@ fn show_access(rt: &impl Print,
 }
 
 // The access records.
-fn show_accesses(rt: &impl Print, 
+fn show_accesses(
+    rt: &impl Print,
     table: &[u8],
     keys: &[u32],
     names: &[u32],
@@ -136,10 +141,14 @@ fn show_accesses(rt: &impl Print,
 )
     requires { Opened table.now keys.now names.now bindings.now accesses.now delegations.now sheet.now }
 {
-    say(rt, b"\n  access record  owner  object  right  depth         key  name\n");
+    say(
+        rt,
+        b"\n  access record  owner  object  right  depth         key  name\n",
+    );
     let mut i = 0;
     while i < accesses.len() {
-        show_access(rt, 
+        show_access(
+            rt,
             table,
             keys,
             names,
@@ -154,7 +163,8 @@ fn show_accesses(rt: &impl Print,
 }
 
 // Delegation number `j`.
-fn show_delegation(rt: &impl Print, 
+fn show_delegation(
+    rt: &impl Print,
     table: &[u8],
     keys: &[u32],
     names: &[u32],
@@ -192,7 +202,8 @@ fn show_delegation(rt: &impl Print,
 }
 
 // The delegations.
-fn show_delegations(rt: &impl Print, 
+fn show_delegations(
+    rt: &impl Print,
     table: &[u8],
     keys: &[u32],
     names: &[u32],
@@ -203,12 +214,14 @@ fn show_delegations(rt: &impl Print,
 )
     requires { Opened table.now keys.now names.now bindings.now accesses.now delegations.now sheet.now }
 {
-    say(rt, 
+    say(
+        rt,
         b"\n  delegation  writer  object  right  depth   owner key         key  owner                    name\n",
     );
     let mut i = 0;
     while i < delegations.len() {
-        show_delegation(rt, 
+        show_delegation(
+            rt,
             table,
             keys,
             names,
@@ -223,7 +236,8 @@ fn show_delegations(rt: &impl Print,
 }
 
 // The whole table.
-pub fn show(rt: &impl Print, 
+pub fn show(
+    rt: &impl Print,
     table: &[u8],
     keys: &[u32],
     names: &[u32],
@@ -236,7 +250,34 @@ pub fn show(rt: &impl Print,
 {
     say_answer(rt, DONE);
     show_spaces(rt, keys);
-    show_bindings(rt, table, keys, names, bindings, accesses, delegations, sheet);
-    show_accesses(rt, table, keys, names, bindings, accesses, delegations, sheet);
-    show_delegations(rt, table, keys, names, bindings, accesses, delegations, sheet);
+    show_bindings(
+        rt,
+        table,
+        keys,
+        names,
+        bindings,
+        accesses,
+        delegations,
+        sheet,
+    );
+    show_accesses(
+        rt,
+        table,
+        keys,
+        names,
+        bindings,
+        accesses,
+        delegations,
+        sheet,
+    );
+    show_delegations(
+        rt,
+        table,
+        keys,
+        names,
+        bindings,
+        accesses,
+        delegations,
+        sheet,
+    );
 }

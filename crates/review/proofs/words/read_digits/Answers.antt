@@ -1,5 +1,4 @@
 -- What is left to read says the same as the whole; the digits that are left get fewer.
-use Prim.Native.Nat.{◌-◌}
 use Rattle.review.proofs.WordsLaws.{said_nothing, reading_start, digit_low, digit_high, too_large, reading_on, reading_end}
 use Rattle.review.proofs.words.read_digits.Goals as goal
 

@@ -1,5 +1,4 @@
 -- Two words are compared from the front; the bytes that are left get fewer.
-use Prim.Native.Nat.{◌-◌}
 use Rattle.review.proofs.WordsLaws.{other_length, comparing_start, other_byte, comparing_on, comparing_end}
 use Rattle.review.proofs.words.same.Goals as goal
 
