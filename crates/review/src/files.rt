@@ -6,7 +6,8 @@ ghost use Rattle.review.specs.Files.{Fits};
 use crate::answers::{NO_INPUT, NO_OUTPUT, say_answer};
 use crate::printing::say;
 use std::fs;
-use std::io::{Read, Write};
+use std::fs::OpenFile;
+use std::io::{ErrorKind, Read, Write};
 use std::rt::{Env, Files};
 
 // What was read stands at the start of a buffer: its first bytes, or nothing.
@@ -70,6 +71,17 @@ fn read_full(file: &mut impl Read, buffer: &mut [u8]) -> usize
     done
 }
 
+// Whether the system has taken what was written, where a write alone may not tell. A pipe or a device that knows no such question has taken it.
+fn settled(file: &impl OpenFile) -> bool {
+    match file.sync_all() {
+        Ok(()) => true,
+        Err(error) => matches!(
+            error.kind(),
+            ErrorKind::InvalidInput | ErrorKind::Unsupported | ErrorKind::ReadOnlyFilesystem
+        ),
+    }
+}
+
 // Reads the file that word number `i` names, as much of it as the buffer holds.
 pub fn read_file(rt: &(impl Env + Files + Print), i: usize, buffer: &mut [u8]) -> Part
     ensures { Fits result buffer.new }
@@ -99,7 +111,8 @@ pub fn write_file(rt: &(impl Env + Files + Print), i: usize, bytes: &[u8]) -> bo
         failed(rt, NO_OUTPUT, b"cannot write ", i);
         return false;
     };
-    if file.write_all(bytes).is_ok() {
+    let whole = file.write_all(bytes).is_ok();
+    if whole && settled(&file) {
         return true;
     }
     failed(rt, NO_OUTPUT, b"cannot write all of ", i);
