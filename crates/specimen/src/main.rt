@@ -1,6 +1,8 @@
 // specimen > LINES: what the kernel answers to the rows of the specimen table: P1 to P10, then those that are only run.
 #![tactic(auto)]
+
 use crate::tables::specimen_table;
+use std::io;
 
 mod limits;
 mod lines;
@@ -8,9 +10,9 @@ mod rows;
 mod tables;
 mod translations;
 
-fn main() {
+fn main(rt: HostRuntime) -> io::Result<()> {
     let table = specimen_table();
-    rows::answer(&table);
-    translations::answer(&table);
-    limits::answer();
+    rows::answer(&rt, &table)?;
+    translations::answer(&rt, &table)?;
+    limits::answer(&rt)
 }
