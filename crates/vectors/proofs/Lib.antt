@@ -2,4 +2,5 @@
 pub mod Examples
 pub mod HashesLaws
 pub mod LinesLaws
+pub mod PartsLaws
 pub mod SheetsLaws
