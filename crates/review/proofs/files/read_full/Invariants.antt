@@ -1,4 +1,4 @@
--- The buffer stays as long as it was, and what is left of it gets less.
+-- The rest of the buffer gets less.
 use Rattle.std.proofs.Common.{length, ◌-◌, ◌≤◌}
 use Rattle.review.proofs.files.read_full.Given as goal
 

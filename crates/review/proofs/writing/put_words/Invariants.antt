@@ -1,4 +1,4 @@
--- The buffer stays as long as it was, and the words that are left get fewer.
+-- The loop ends: the words that are left get fewer.
 use Prim.Native.Nat.{◌-◌}
 use Rattle.review.proofs.writing.put_words.Given as goal
 
