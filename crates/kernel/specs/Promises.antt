@@ -1,4 +1,4 @@
--- What each exported function promises: the record that a host gets is that of an answer which the part behind it promises,
+-- What each function of the interface promises: the record that a host gets is that of an answer which the part behind it promises,
 -- for these bytes, with the lent buffers before and after.
 use Rattle.std.specs.Prelude.{◌≡◌, List, ℕ}
 use Rattle.checker.specs.Promise.{Checks}
