@@ -4,8 +4,7 @@
 use crate::input::stopped;
 use crate::parts::{answer_one, answer_two};
 use crate::streams::read_full;
-use std::io;
-use std::io::{BufReader, BufWriter, Read, Write};
+use std::io::{Read, Write};
 
 mod checks;
 mod decisions;
@@ -56,14 +55,12 @@ fn answer_next<R: Read, W: Write, E: Write>(input: &mut R, out: &mut W, errors: 
 }
 
 // A proved loop has to end, and nothing says that the input does: the turns count down from a number that no input uses up.
-// The lines stand in a buffer until it is full or the cases end.
-fn main(rt: HostRuntime) -> io::Result<()> {
-    let mut input = BufReader::new(rt.alloc(), rt.stdin())?;
-    let mut out = BufWriter::new(rt.alloc(), rt.stdout())?;
+fn main(rt: HostRuntime) {
+    let mut input = rt.stdin();
+    let mut out = rt.stdout();
     let mut errors = rt.stderr();
     let mut turns = u64::MAX;
     while turns > 0 && answer_next(&mut input, &mut out, &mut errors) {
         turns -= 1;
     }
-    out.flush()
 }
