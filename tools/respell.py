@@ -62,6 +62,15 @@ def respelled(path, text, names):
 # Where a name would fall together with another of its files: a lemma that would have its definition's name gets `_lem`.
 APART = {"fillOne": "filled_one", "goesOn": "gone_on", "oneKey": "only_key", "table-at": "table_at_lem", "read_table": "read_table_lem"}
 
+# Parameters, and the names under which files take the variants of an enum.
+INNER = {
+    "notADerivation": "not_a_derivation", "becomesNothing": "becomes_nothing", "findsNothing": "finds_nothing", "findsKey": "finds_key",
+    "packedNames": "packed_names", "bindingPlaces": "binding_places", "accessPlaces": "access_places", "delegationPlaces": "delegation_places",
+    "keyTable": "key_table", "keyRequest": "key_request", "keyAnswer": "key_answer", "keyLoaded": "key_loaded", "byKeys": "by_keys",
+    "byBefore": "by_before", "sheetRoom": "room_of_sheet", "asHanded": "the_handed", "asBound": "the_bound", "asKeyRequest": "as_key_request",
+    **{f"as{it}": f"as_{it.lower()}" for it in "Access Answer Binding Delegation Depth Derivation Field Given Key Made Numbers Path Read Request Section Space Target Use".split()},
+}
+
 
 def main():
     names = renames()
@@ -72,6 +81,7 @@ def main():
         if len(olds) > 1:
             names.update({old: new + "_lem" for old in olds if "-" in old})
     names.update(APART)
+    names.update(INNER)
     if sys.argv[1:] == ["--list"]:
         whole = {}
         for path in antt_files() + glob.glob("crates/*/src/**/*.rt", recursive=True):

@@ -25,7 +25,7 @@ use Rattle.records.specs.DerivationBytes.{listed_number}
 use Rattle.records.specs.declared.faults.Kind.TheVariants as kind
 use Rattle.records.specs.declared.faults.Fault.{Fault}
 use Rattle.records.specs.declared.fields.Field.{Field}
-use Rattle.records.specs.declared.fields.Field.TheVariants as asField
+use Rattle.records.specs.declared.fields.Field.TheVariants as as_field
 use Rattle.records.proofs.ParsedLaws.{then_got}
 use Rattle.records.proofs.ManyLaws.{Left, left_start, left_on}
 use Rattle.table.proofs.FindingLaws.{at_below}
@@ -89,7 +89,7 @@ module _ (t : NameTable) (s : List ℕ) (from count : ℕ) where
 
     module _ (h : i < count) (r : Field) (found : r ≡ field_read (field 0 255 s at)) where
       -- The next number, as it is read.
-      next_number : (L : List ℕ) (l : Listed s from count L) → (mid : ℕ) × (r ≡ asField.Value (get_or L i 0) mid) × Left listed_number s L l.end (i + 1) mid
+      next_number : (L : List ℕ) (l : Listed s from count L) → (mid : ℕ) × (r ≡ as_field.Value (get_or L i 0) mid) × Left listed_number s L l.end (i + 1) mid
       next_number L l =
           let w = left_on listed_number s L l.end i at 0 (omega (arith, l.size)) (e.entered L l).left in
           let a = then_got {B = ℕ} (λ v next. pick (is_among (take i L) v) (bad (fault_at kind.Twice at)) (got v next)) (field 0 255 s at) (get_or L i 0) w.0 w.1 in
@@ -99,18 +99,18 @@ module _ (t : NameTable) (s : List ℕ) (from count : ℕ) where
           same v n true q = let z : ◌≡◌ {A = ℕ} 0 1 = cc in absurd (omega arith)
           same v n false q = q
 
-      pub no_number : (f : Fault) → r ≡ asField.Fault f → EntersAll t s from count sheet false
+      pub no_number : (f : Fault) → r ≡ as_field.Fault f → EntersAll t s from count sheet false
       no_number f g L l =
           let w = next_number L l in
-          let q : asField.Value (get_or L i 0) w.0 ≡ asField.Fault f = sym w.1 ∙ g in
+          let q : as_field.Value (get_or L i 0) w.0 ≡ as_field.Fault f = sym w.1 ∙ g in
           let z : ◌≡◌ {A = ℕ} 0 1 = cc in
           absurd (omega arith)
 
-      module _ (v next : ℕ) (g : r ≡ asField.Value v next) where
+      module _ (v next : ℕ) (g : r ≡ as_field.Value v next) where
         is_number : (L : List ℕ) (l : Listed s from count L) → (get_or L i 0 ≡ v) × Left listed_number s L l.end (i + 1) next
         is_number L l =
             let w = next_number L l in
-            let q : asField.Value (get_or L i 0) w.0 ≡ asField.Value v next = sym w.1 ∙ g in
+            let q : as_field.Value (get_or L i 0) w.0 ≡ as_field.Value v next = sym w.1 ∙ g in
             let a : get_or L i 0 ≡ v = cc q in
             let b : w.0 ≡ next = cc q in
             (a, subst (Left listed_number s L l.end (i + 1)) b w.2)

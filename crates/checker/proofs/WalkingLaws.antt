@@ -23,7 +23,7 @@ use Rattle.records.specs.Many.{many}
 use Rattle.records.specs.DerivationBytes.{chain_number}
 use Rattle.records.specs.declared.faults.Fault.{Fault}
 use Rattle.records.specs.declared.fields.Field.{Field}
-use Rattle.records.specs.declared.fields.Field.TheVariants as asField
+use Rattle.records.specs.declared.fields.Field.TheVariants as as_field
 use Rattle.records.proofs.ManyLaws.{Left, left_start, left_on}
 use Rattle.table.specs.ReadTable.{table_at}
 use Rattle.sheet.proofs.FindsLaws.{own_key, leads_one}
@@ -31,9 +31,9 @@ use Rattle.sheet.proofs.MeaningLaws.{index_spaces}
 use Rattle.matching.specs.Matching.{told, GivesTo, HandsOn, Gives, to, not_given, Hands, Held}
 use Rattle.matching.proofs.MatchingLaws.{gives_to, gives_none, hands_on, hands_none}
 use Rattle.matching.specs.declared.Given.{Given}
-use Rattle.matching.specs.declared.Given.TheVariants as asGiven
+use Rattle.matching.specs.declared.Given.TheVariants as as_given
 use Rattle.matching.specs.declared.Handed.{Handed}
-use Rattle.matching.specs.declared.Handed.TheVariants as asHanded
+use Rattle.matching.specs.declared.Handed.TheVariants as the_handed
 use Rattle.checker.specs.Walks.{Chained, ChainTo, WalksAll, StepTo, Numbered, GoesOn}
 
 -- ---- one step
@@ -45,10 +45,10 @@ module _ (s keys names accesses delegations : List ℕ) (held : Held s keys name
   as_handed : {k : Key} {b : ℕ} (w : StepTo (table_at s) sheet q j holder a k b) → HandsOn (table_at s) sheet q j w.name.space k w.depth
   as_handed w = record { path = w.name.path; writer = holder; writes = w.writes; leads = w.leads }
 
-  pub hands_nothing : r ≡ asHanded.Nothing → Steps asGiven.Nothing
+  pub hands_nothing : r ≡ the_handed.Nothing → Steps as_given.Nothing
   hands_nothing e = not_given (λ k b w. hands_none found e w.name.space k w.depth (as_handed w))
 
-  module _ (S : Space) (k : Key) (d : Depth) (e : r ≡ asHanded.On S k d) where
+  module _ (S : Space) (k : Key) (d : Depth) (e : r ≡ the_handed.On S k d) where
     hands : HandsOn (table_at s) sheet q j S k d.0
     hands = hands_on found e
 
@@ -61,14 +61,14 @@ module _ (s keys names accesses delegations : List ℕ) (held : Held s keys name
     same_writer : {m : Key} {b : ℕ} (w : StepTo (table_at s) sheet q j holder a m b) → w.name.space ≡ S
     same_writer w = ap (λ (x : Delegation). x.writer) (at_one w.writes.at hands.writes.at)
 
-    pub another_wrote : (get_or keys S.0 0 ≡ holder.0 → ⊥) → Steps asGiven.Nothing
+    pub another_wrote : (get_or keys S.0 0 ≡ holder.0 → ⊥) → Steps as_given.Nothing
     another_wrote f =
         not_given (λ m b w. f (ap (λ (x : Key). x.0) (self_one writer_self (subst (λ (T : Space). IsSelf (table_at s).names.spaces T holder) (same_writer w) w.writes.is_self))))
 
-    pub no_depth_left : a ≡ 0 → Steps asGiven.Nothing
+    pub no_depth_left : a ≡ 0 → Steps as_given.Nothing
     no_depth_left z = not_given (λ m b w. omega (arith, z, w.step.some))
 
-    pub steps_on : get_or keys S.0 0 ≡ holder.0 → (b : Depth) → Step a d.0 b.0 → Steps (asGiven.To k b)
+    pub steps_on : get_or keys S.0 0 ≡ holder.0 → (b : Depth) → Step a d.0 b.0 → Steps (as_given.To k b)
     steps_on h b st = to k b (record {
       name = record { space = S; path = hands.path };
       depth = d.0;
@@ -155,26 +155,26 @@ module _ (t : Table) (good : GoodNames t.names) (sheet : List ℕ) (q : Asked Sp
     }
 
     module _ (at i : ℕ) (holder : Key) (d : ℕ) (o : Walking t sheet q s from count start begun at i holder d) where
-      pub walk_ends : (b : Depth) → b.0 ≡ d → count ≤ i → GoesOn t sheet q s from count start begun (asGiven.To holder b)
+      pub walk_ends : (b : Depth) → b.0 ≡ d → count ≤ i → GoesOn t sheet q s from count start begun (as_given.To holder b)
       walk_ends b e h a D n w =
           to holder b (subst (λ (x : ℕ). ChainTo t sheet q a D holder x) (sym e) (subst (λ (c : List ℕ). ChainTo t sheet q a c holder d) (take_all i D (omega (arith, n.size))) (o.walked a D n w).reached))
 
       module _ (h : i < count) (r : Field) (found : r ≡ field_read (field 0 511 s at)) where
-        next_number : (D : List ℕ) (n : Numbered s from count D) → Left chain_number s D n.end i at → (mid : ℕ) × (r ≡ asField.Value (get_or D i 0) mid) × Left chain_number s D n.end (i + 1) mid
+        next_number : (D : List ℕ) (n : Numbered s from count D) → Left chain_number s D n.end i at → (mid : ℕ) × (r ≡ as_field.Value (get_or D i 0) mid) × Left chain_number s D n.end (i + 1) mid
         next_number D n l = let w = left_on chain_number s D n.end i at 0 (omega (arith, n.size)) l in (w.0, found ∙ ap field_read w.1, w.2)
 
-        pub no_next : (f : Fault) → r ≡ asField.Fault f → GoesOn t sheet q s from count start begun asGiven.Nothing
+        pub no_next : (f : Fault) → r ≡ as_field.Fault f → GoesOn t sheet q s from count start begun as_given.Nothing
         no_next f g a D n w =
             let x = next_number D n (o.walked a D n w).left in
-            let e : asField.Value (get_or D i 0) x.0 ≡ asField.Fault f = sym x.1 ∙ g in
+            let e : as_field.Value (get_or D i 0) x.0 ≡ as_field.Fault f = sym x.1 ∙ g in
             let z : ◌≡◌ {A = ℕ} 0 1 = cc in
             absurd (omega arith)
 
-        module _ (v next₂ : ℕ) (g : r ≡ asField.Value v next₂) where
+        module _ (v next₂ : ℕ) (g : r ≡ as_field.Value v next₂) where
           is_next : (a : ℕ) (D : List ℕ) (n : Numbered s from count D) → ChainTo t sheet q a [] start begun → (get_or D i 0 ≡ v) × Left chain_number s D n.end (i + 1) next₂
           is_next a D n w =
               let x = next_number D n (o.walked a D n w).left in
-              let e : asField.Value (get_or D i 0) x.0 ≡ asField.Value v next₂ = sym x.1 ∙ g in
+              let e : as_field.Value (get_or D i 0) x.0 ≡ as_field.Value v next₂ = sym x.1 ∙ g in
               let b : get_or D i 0 ≡ v = cc e in
               let c : x.0 ≡ next₂ = cc e in
               (b, subst (Left chain_number s D n.end (i + 1)) c x.2)
@@ -189,14 +189,14 @@ module _ (t : Table) (good : GoodNames t.names) (sheet : List ℕ) (q : Asked Sp
           must_step a D n w k b u =
               goes_through a (take i D) v (drop (suc i) D) (o.walked a D n w).reached (subst (λ (c : List ℕ). ChainTo t sheet q a c k b) (apart a D n w) u)
 
-          pub not_written : length t.delegations ≤ v → GoesOn t sheet q s from count start begun asGiven.Nothing
+          pub not_written : length t.delegations ≤ v → GoesOn t sheet q s from count start begun as_given.Nothing
           not_written e a D n w = not_given (λ k b u. let z = (must_step a D n w k b u).2.writes.at.there in omega arith)
 
           module _ (x : Given) (one : Gives (StepTo t sheet q v holder d) x) where
-            pub stops_here : x ≡ asGiven.Nothing → GoesOn t sheet q s from count start begun asGiven.Nothing
+            pub stops_here : x ≡ as_given.Nothing → GoesOn t sheet q s from count start begun as_given.Nothing
             stops_here e a D n w = not_given (λ k b u. let z = must_step a D n w k b u in gives_none one e z.0 z.1 z.2)
 
-            pub walks_on : (k : Key) (b : Depth) → x ≡ asGiven.To k b → Walking t sheet q s from count start begun next₂ (i + 1) k b.0
+            pub walks_on : (k : Key) (b : Depth) → x ≡ as_given.To k b → Walking t sheet q s from count start begun next₂ (i + 1) k b.0
             walks_on k b e = record {
               most = omega arith;
               walked = λ a D n w. record {
@@ -210,29 +210,29 @@ module _ (t : Table) (good : GoodNames t.names) (sheet : List ℕ) (q : Asked Sp
 
   -- ---- the whole chain
   module _ (s : List ℕ) (from count : ℕ) (r : Field) (found : r ≡ field_read (field 0 255 s from)) where
-    pub no_first : (f : Fault) → r ≡ asField.Fault f → WalksAll t sheet q s from count asGiven.Nothing
+    pub no_first : (f : Fault) → r ≡ as_field.Fault f → WalksAll t sheet q s from count as_given.Nothing
     no_first f g a D n =
-        let e : asField.Value a n.middle ≡ asField.Fault f = sym (found ∙ ap field_read n.first) ∙ g in
+        let e : as_field.Value a n.middle ≡ as_field.Fault f = sym (found ∙ ap field_read n.first) ∙ g in
         let z : ◌≡◌ {A = ℕ} 0 1 = cc in
         absurd (omega arith)
 
-    module _ (v next₂ : ℕ) (g : r ≡ asField.Value v next₂) where
+    module _ (v next₂ : ℕ) (g : r ≡ as_field.Value v next₂) where
       is_first : (a : ℕ) (D : List ℕ) → Chained s from count a D → (a ≡ v) × Numbered s next₂ count D
       is_first a D n =
-          let e : asField.Value a n.middle ≡ asField.Value v next₂ = sym (found ∙ ap field_read n.first) ∙ g in
+          let e : as_field.Value a n.middle ≡ as_field.Value v next₂ = sym (found ∙ ap field_read n.first) ∙ g in
           let b : a ≡ v = cc e in
           let c : n.middle ≡ next₂ = cc e in
           (b, record { end = n.end; reads = ap (λ (m : ℕ). many chain_number count [] s m) (sym c) ∙ n.others; size = n.size })
 
-      pub not_listed : length t.accesses ≤ v → WalksAll t sheet q s from count asGiven.Nothing
+      pub not_listed : length t.accesses ≤ v → WalksAll t sheet q s from count as_given.Nothing
       not_listed h a D n = not_given (λ k b w. let z = (begun_by a D k b w).2.lists.at.there in omega (arith, z, (is_first a D n).0))
 
       module _ (x : Given) (one : Gives (GivesTo t sheet q v) x) where
-        pub gives_nobody : x ≡ asGiven.Nothing → WalksAll t sheet q s from count asGiven.Nothing
+        pub gives_nobody : x ≡ as_given.Nothing → WalksAll t sheet q s from count as_given.Nothing
         gives_nobody e a D n =
             not_given (λ k b w. let z = begun_by a D k b w in gives_none one e z.0 z.1 (subst (λ (m : ℕ). GivesTo t sheet q m z.0 z.1) (is_first a D n).0 z.2))
 
-        pub walks_from : (k : Key) (b : Depth) → x ≡ asGiven.To k b → (y : Given) → GoesOn t sheet q s next₂ count k b.0 y → WalksAll t sheet q s from count y
+        pub walks_from : (k : Key) (b : Depth) → x ≡ as_given.To k b → (y : Given) → GoesOn t sheet q s next₂ count k b.0 y → WalksAll t sheet q s from count y
         walks_from k b e y w a D n =
             let z = is_first a D n in
             w a D z.1 (subst (λ (m : ℕ). ChainTo t sheet q m [] k b.0) (sym z.0) (chain_begins v (gives_to one e)))

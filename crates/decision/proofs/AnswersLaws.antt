@@ -12,7 +12,7 @@ use Rattle.records.specs.Targets.{target_of}
 use Rattle.records.specs.declared.faults.Fault.{Fault}
 use Rattle.records.specs.declared.requests.Request.{Request as RequestValue}
 use Rattle.records.specs.declared.requests.RequestRead.{RequestRead}
-use Rattle.records.specs.declared.requests.RequestRead.TheVariants as asRequest
+use Rattle.records.specs.declared.requests.RequestRead.TheVariants as as_request
 use Rattle.records.specs.DerivationBytes.{most_derivation}
 use Rattle.table.specs.ReadTable.{read_table, table_at, loaded_of}
 use Rattle.table.specs.declared.Loaded.{Loaded}
@@ -31,10 +31,10 @@ use Rattle.decision.specs.declared.Decided.TheVariants as decided
 
 -- ---- before there is room
 module _ (s keys names accesses delegations : List ℕ) (held : Held s keys names accesses delegations) (asked : RequestRead) (request : List ℕ) (read : asked ≡ request_read (read_request (length keys) request)) (sheet₀ derivation₀ : List ℕ) where
-  pub bad_request_lem : asked ≡ asRequest.Not → DecidesGood (table_at s) request sheet₀ derivation₀ decided.BadRequest sheet₀ derivation₀
+  pub bad_request_lem : asked ≡ as_request.Not → DecidesGood (table_at s) request sheet₀ derivation₀ decided.BadRequest sheet₀ derivation₀
   bad_request_lem e = promise.bad_request (asks_nothing s keys names accesses delegations held asked request read e)
 
-  module _ (bytes : Bytes request) (wish : RequestValue) (e : asked ≡ asRequest.Request wish) where
+  module _ (bytes : Bytes request) (wish : RequestValue) (e : asked ≡ as_request.Request wish) where
     is : Asks s keys request wish
     is = asks s keys names accesses delegations held asked request read bytes wish e
 

@@ -114,12 +114,12 @@ module _ (t : Table) (good : Good t) (sheet₀ sheet order : List ℕ) (n : ℕ)
     all_written size = subst (AllWritten t) (sym (slice_all r.first chain size)) (chain_all_written (told t sheet) t q shown_so.0.chain)
 
   -- The answers.
-  module _ (subject : Target) (q : Asked Space) (derivation₀ : List ℕ) (size : length sheet ≡ length sheet₀) (sheetRoom : sheet_size ≤ length sheet₀) (room : most_derivation ≤ length derivation₀) where
+  module _ (subject : Target) (q : Asked Space) (derivation₀ : List ℕ) (size : length sheet ≡ length sheet₀) (room_of_sheet : sheet_size ≤ length sheet₀) (room : most_derivation ≤ length derivation₀) where
     abbrev request : Request
     request = record { subject = subject; asked = q }
 
     ready : (s : List ℕ) → read_request (length t.names.spaces) s ≡ some request → Ready t s sheet₀ derivation₀ request sheet
-    ready s e = record { accepted = e; room_for_sheet = sheetRoom; room_for_derivation = room; filled = record { size = size; exact = filled.exact; past = filled.past } }
+    ready s e = record { accepted = e; room_for_sheet = room_of_sheet; room_for_derivation = room; filled = record { size = size; exact = filled.exact; past = filled.past } }
 
     module _ (meant : Followed) (finds : Finds (TargetLeads t.names (InSheet t.names sheet) subject) meant) where
       pub no_name : meant ≡ followed.Nothing → DecidesAs t subject q sheet₀ derivation₀ decided.Unnamed sheet derivation₀

@@ -24,7 +24,7 @@ use Rattle.sheet.proofs.FindsLaws.{leads_one}
 use Rattle.sheet.proofs.MeaningLaws.{index_spaces}
 use Rattle.matching.specs.Matching.{told, HandsOn, Hands, Held}
 use Rattle.matching.specs.declared.Handed.{Handed}
-use Rattle.matching.specs.declared.Handed.TheVariants as asHanded
+use Rattle.matching.specs.declared.Handed.TheVariants as the_handed
 use Rattle.matching.proofs.MatchingLaws.{hands_on, hands_none}
 use Rattle.reach.specs.Edges.{edge_of, froms, tos, depths_of, numbers_of}
 use Rattle.reach.specs.Graphs.{WroteTo, Edge, Drawn}
@@ -112,10 +112,10 @@ module _ (t : Table) (good : GoodNames t.names) (sheet : List ℕ) (q : Asked Sp
     as_handed : {k m : Key} {d : ℕ} (w : WroteTo Y j k m d) → HandsOn t sheet q j w.name.space m d
     as_handed {k} w = record { path = w.name.path; writer = k; writes = w.wrote; leads = w.means }
 
-    pub hands_no_edge : r ≡ asHanded.Nothing → RowsSo t sheet q subject (j + 1) from to depths numbers
+    pub hands_no_edge : r ≡ the_handed.Nothing → RowsSo t sheet q subject (j + 1) from to depths numbers
     hands_no_edge e = no_edge (λ d u v k m w a b. hands_none found-so e w.name.space m d (as_handed w))
 
-    module _ (S : Space) (m : Key) (d : Depth) (e : r ≡ asHanded.On S m d) where
+    module _ (S : Space) (m : Key) (d : Depth) (e : r ≡ the_handed.On S m d) where
       hands : HandsOn t sheet q j S m d.0
       hands = hands_on found-so e
 
@@ -159,7 +159,7 @@ drawn_in t sheet q subject j m edges u v d c x e is a b k h w =
     row = rw (add-one m) (take-suc-set edges m x h ∙ ap (λ (y : ℕ). take m edges ▷ y) packed)
 
 -- ---- numbers that fit
-module _ (s keys names accesses delegations : List ℕ) (held : Held s keys names accesses delegations) (sheet : List ℕ) (q : Asked Space) (j : ℕ) (r : Handed) (g : Hands (HandsOn (table_at s) sheet q j) r) (S : Space) (m : Key) (d : Depth) (e : r ≡ asHanded.On S m d) where
+module _ (s keys names accesses delegations : List ℕ) (held : Held s keys names accesses delegations) (sheet : List ℕ) (q : Asked Space) (j : ℕ) (r : Handed) (g : Hands (HandsOn (table_at s) sheet q j) r) (S : Space) (m : Key) (d : Depth) (e : r ≡ the_handed.On S m d) where
   pub writer_fits_node : S.0 < length keys
   writer_fits_node = omega (arith, (hands_on g e).writes.is_self.at.there, index_spaces (table_at s).names keys names held.index)
 

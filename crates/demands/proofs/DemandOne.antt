@@ -14,7 +14,7 @@ use Rattle.decision.specs.declared.Decided.{Decided}
 use Rattle.decision.specs.declared.Decided.TheVariants as decided
 use Rattle.decision.proofs.Theorems.{decision_one}
 use Rattle.keytable.specs.declared.KeyAnswer.{KeyAnswer}
-use Rattle.keytable.specs.declared.KeyAnswer.TheVariants as keyAnswer
+use Rattle.keytable.specs.declared.KeyAnswer.TheVariants as key_answer
 use Rattle.keytable.proofs.Theorems.{key_decision_one}
 use Rattle.translation.specs.Promise.{Answers}
 use Rattle.translation.specs.Promise as answers
@@ -56,10 +56,10 @@ translated_listed (translated.BadTable e) = omega (arith, fault_listed e.kind)
 translated_listed translated.Room = omega arith
 
 key_listed : (a : KeyAnswer) → (of_key_answer a).number ≤ 11
-key_listed (keyAnswer.Granted d) = omega arith
-key_listed (keyAnswer.Fault e) = omega (arith, fault_listed e.kind)
-key_listed keyAnswer.Request = omega arith
-key_listed keyAnswer.Denied = omega arith
+key_listed (key_answer.Granted d) = omega arith
+key_listed (key_answer.Fault e) = omega (arith, fault_listed e.kind)
+key_listed key_answer.Request = omega arith
+key_listed key_answer.Denied = omega arith
 
 -- ---- what refusals leave
 derivation_left_lem : {t : Table} {request sheet₀ derivation₀ x v : List ℕ} {a : Decided} → DecidesGood t request sheet₀ derivation₀ a x v → 1 ≤ (of_decided a).number → v ≡ derivation₀
@@ -112,7 +112,7 @@ demand_one = record {
   translation = λ table buffer b.
       let w = translates_something table buffer b in
       record { answer = w.0; after = w.1; promised = w.2; listed = translated_listed w.0; only = λ a x h. translation_one table buffer b w.2 h; left = buffer_stays w.2 };
-  key_decision = λ keyTable keyRequest b.
-      let w = key_decides_something keyTable keyRequest b in
+  key_decision = λ key_table key_request b.
+      let w = key_decides_something key_table key_request b in
       record { answer = w.0; promised = w.1; listed = key_listed w.0; only = λ a h. key_decision_one w.1 h };
 }

@@ -33,7 +33,7 @@ use Rattle.decision.specs.declared.Decided.{Decided}
 use Rattle.decision.specs.declared.Decided.TheVariants as decided
 use Rattle.keytable.specs.Deciding.{KeyDecides, fault, request, denied, granted}
 use Rattle.keytable.specs.declared.KeyAnswer.{KeyAnswer}
-use Rattle.keytable.specs.declared.KeyAnswer.TheVariants as byKeys
+use Rattle.keytable.specs.declared.KeyAnswer.TheVariants as by_keys
 use Rattle.translation.specs.Promise.{Answers, bad_table, room, done}
 use Rattle.translation.specs.declared.Translated.{Translated}
 use Rattle.translation.proofs.GoodLaws.{means_good}
@@ -56,10 +56,10 @@ succeeds table before b e r (done f h k) = let w = translation_loads table befor
 -- ---- the same answer
 -- The key decision, by what the key has.
 data KeyOutcome (Y : Setting) (k : Key) : KeyAnswer → Type 0 where
-  yes' : {d : Depth} → Has Y k (verdict.granted d.0) → KeyOutcome Y k (byKeys.Granted d)
-  no' : Has Y k verdict.denied → KeyOutcome Y k byKeys.Denied
+  yes' : {d : Depth} → Has Y k (verdict.granted d.0) → KeyOutcome Y k (by_keys.Granted d)
+  no' : Has Y k verdict.denied → KeyOutcome Y k by_keys.Denied
 
-key_outcome : {keyTable keyRequest : List ℕ} {b : KeyAnswer} (l : KeyLaid) (n : ℕ) (r : KeyRequest) → read_key_table keyTable ≡ got l n → read_key_request keyRequest ≡ some r → KeyDecides keyTable keyRequest b
+key_outcome : {key_table key_request : List ℕ} {b : KeyAnswer} (l : KeyLaid) (n : ℕ) (r : KeyRequest) → read_key_table key_table ≡ got l n → read_key_request key_request ≡ some r → KeyDecides key_table key_request b
     → KeyOutcome (key_setting (key_table_of l) r.asked) r.subject b
 key_outcome l n r e f (fault g) = absurd (got_or_bad e g)
 key_outcome l n r e f (request g h) = absurd (some_or_none f h)
@@ -74,27 +74,27 @@ module _ (Y Z : Setting) (k : Key) (same : (d : ℕ) → Granted Y k d ↔ Grant
   one h g = has_one Z k (has_alike Y Z k same h) g
 
   same_answer : (a : Decided) (b : KeyAnswer) → Outcome Y k a → KeyOutcome Z k b → SameAnswer a b
-  same_answer (decided.Granted d n) (byKeys.Granted c) (yes h) (yes' g) =
+  same_answer (decided.Granted d n) (by_keys.Granted c) (yes h) (yes' g) =
       let e : d.0 ≡ c.0 = cc (one h g) in
       let f : d ≡ c = λ i. record { 0 = e i } in
       record {
-        granted = λ x. (λ w. let p : d ≡ x = cc w.1 in ap byKeys.Granted (sym f ∙ p), λ w. (n, let p : c ≡ x = cc w in ap (λ (z : Depth). decided.Granted z n) (f ∙ p)));
+        granted = λ x. (λ w. let p : d ≡ x = cc w.1 in ap by_keys.Granted (sym f ∙ p), λ w. (n, let p : c ≡ x = cc w in ap (λ (z : Depth). decided.Granted z n) (f ∙ p)));
         denied = (λ w. let z : ◌≡◌ {A = ℕ} 0 1 = cc w in absurd (omega arith), λ w. let z : ◌≡◌ {A = ℕ} 0 1 = cc w in absurd (omega arith));
       }
-  same_answer (decided.Granted d n) byKeys.Denied (yes h) (no' g) = absurd (apart (one h g))
-  same_answer decided.Denied (byKeys.Granted c) (no h) (yes' g) = absurd (apart (sym (one h g)))
-  same_answer decided.Denied byKeys.Denied (no h) (no' g) = record {
+  same_answer (decided.Granted d n) by_keys.Denied (yes h) (no' g) = absurd (apart (one h g))
+  same_answer decided.Denied (by_keys.Granted c) (no h) (yes' g) = absurd (apart (sym (one h g)))
+  same_answer decided.Denied by_keys.Denied (no h) (no' g) = record {
     granted = λ x. (λ w. let z : ◌≡◌ {A = ℕ} 0 1 = cc w.1 in absurd (omega arith), λ w. let z : ◌≡◌ {A = ℕ} 0 1 = cc w in absurd (omega arith));
     denied = (λ w. refl, λ w. refl);
   }
-  same_answer (decided.Granted d n) (byKeys.Fault _) _ h = elim h [ ]
-  same_answer (decided.Granted d n) byKeys.Request _ h = elim h [ ]
+  same_answer (decided.Granted d n) (by_keys.Fault _) _ h = elim h [ ]
+  same_answer (decided.Granted d n) by_keys.Request _ h = elim h [ ]
   same_answer (decided.BadTable _) b h _ = elim h [ ]
   same_answer decided.BadRequest b h _ = elim h [ ]
   same_answer decided.Room b h _ = elim h [ ]
   same_answer decided.Unnamed b h _ = elim h [ ]
-  same_answer decided.Denied (byKeys.Fault _) _ h = elim h [ ]
-  same_answer decided.Denied byKeys.Request _ h = elim h [ ]
+  same_answer decided.Denied (by_keys.Fault _) _ h = elim h [ ]
+  same_answer decided.Denied by_keys.Request _ h = elim h [ ]
   same_answer decided.Overrun b h _ = elim h [ ]
 
   same_decision : (a b : Decided) → Outcome Y k a → Outcome Z k b → SameDecision a b
@@ -128,11 +128,11 @@ module _ (Y Z : Setting) (k : Key) (same : (d : ℕ) → Granted Y k d ↔ Grant
   same_decision decided.Overrun b h _ = elim h [ ]
 
 -- ---- over the bytes
-module _ (table asked keyRequest : List ℕ) (b : Bytes table) (x : Accepted table asked) (q : AsksTheSame table asked keyRequest x) (n : ℕ) (after : List ℕ) (w : Loads table after n) where
+module _ (table asked key_request : List ℕ) (b : Bytes table) (x : Accepted table asked) (q : AsksTheSame table asked key_request x) (n : ℕ) (after : List ℕ) (w : Loads table after n) where
   translates : Translates (Means (table_of x.laid).names) (table_of x.laid) (key_table_of w.key_laid)
   translates = subst (λ (z : LaidTable). Translates (Means (table_of z).names) (table_of z) (key_table_of w.key_laid)) (got_one w.reads x.table') w.translates
 
-  same_bytes : (a : Decided) (c : KeyAnswer) → Outcome (setting (table_of x.laid) x.asked.asked) x.key a → KeyDecides (take n after) keyRequest c → SameAnswer a c
+  same_bytes : (a : Decided) (c : KeyAnswer) → Outcome (setting (table_of x.laid) x.asked.asked) x.key a → KeyDecides (take n after) key_request c → SameAnswer a c
   same_bytes a c o h =
       same_answer (setting (table_of x.laid) x.asked.asked) (key_setting (key_table_of w.key_laid) (record { owner = q.owner; object = x.asked.asked.object; right = x.asked.asked.right })) x.key
       (λ d. translation_changes_nothing (table_of x.laid) (table_form table x.laid x.end b x.table').1 (key_table_of w.key_laid) translates x.asked.asked q.owner q.own x.key d)
@@ -183,7 +183,7 @@ module _ (table question : List ℕ) (b : Bytes table) (c : Bytes question) (x :
     right = good_question.right;
   }
 
-  asked : (keyRequest : List ℕ) × AsksTheSame table question keyRequest x
+  asked : (key_request : List ℕ) × AsksTheSame table question key_request x
   asked = (key_request_bytes ask, record { owner = own.0; own = record { at = own.1 }; read = key_request_reads ask good_ask })
 
 -- DEMAND 3 IS MET.
@@ -191,8 +191,8 @@ pub demand_three : DemandThree
 demand_three = record {
   succeeds = λ table before after a l end b e r h. succeeds table before b e r h;
   asked = asked;
-  same = λ table before after question keyRequest sheet₀ derivation₀ sheet derivation n a c b t x q room h k.
-      same_bytes table question keyRequest b x q n after (translation_loads table before b n after t) a c (outcome table question sheet₀ derivation₀ b x h room) k;
+  same = λ table before after question key_request sheet₀ derivation₀ sheet derivation n a c b t x q room h k.
+      same_bytes table question key_request b x q n after (translation_loads table before b n after t) a c (outcome table question sheet₀ derivation₀ b x h room) k;
   idle = λ table table' asked sheet₀ derivation₀ sheet derivation sheet' derivation' a c b b' x y out h room h' room'.
       same_less table table' asked b x y out a c (outcome table asked sheet₀ derivation₀ b x h room) (outcome table' asked sheet₀ derivation₀ b' y h' room');
   unnamed = λ table question sheet₀ derivation₀ sheet derivation a l end r e f n room h. unnamed_here table question sheet₀ derivation₀ l end r e f n room h;

@@ -47,9 +47,9 @@ use Rattle.decision.specs.declared.Decided.{Decided}
 use Rattle.decision.specs.declared.Decided.TheVariants as decided
 use Rattle.decision.proofs.ListedLaws.{all_below, ordered_below, chain_listed, chain_written}
 use Rattle.keytable.specs.Deciding.{KeyDecides}
-use Rattle.keytable.specs.Deciding as byKeys
+use Rattle.keytable.specs.Deciding as by_keys
 use Rattle.keytable.specs.declared.KeyAnswer.{KeyAnswer}
-use Rattle.keytable.specs.declared.KeyAnswer.TheVariants as keyAnswer
+use Rattle.keytable.specs.declared.KeyAnswer.TheVariants as key_answer
 use Rattle.translation.specs.Promise.{Answers}
 use Rattle.translation.specs.Promise as answers
 use Rattle.translation.specs.declared.Translated.{Translated}
@@ -210,17 +210,17 @@ translates_something table before b = go (read_table table) refl
             (translated.Done (length (key_table_bytes K)), placed before 0 (key_table_bytes K), answers.done e h (the_function_translates (table_of l) (table_form table l n b e).1))
 
 -- ---- the decision over a key table
-pub key_decides_something : (keyTable keyRequest : List ℕ) → Bytes keyTable → (a : KeyAnswer) × KeyDecides keyTable keyRequest a
-key_decides_something keyTable keyRequest b = go (read_key_table keyTable) refl
+pub key_decides_something : (key_table key_request : List ℕ) → Bytes key_table → (a : KeyAnswer) × KeyDecides key_table key_request a
+key_decides_something key_table key_request b = go (read_key_table key_table) refl
   where
-    go : (p : Parsed KeyLaid) → read_key_table keyTable ≡ p → (a : KeyAnswer) × KeyDecides keyTable keyRequest a
-    go (bad f) e = (keyAnswer.Fault f, byKeys.fault e)
-    go (got l n) e = asked (read_key_request keyRequest) refl
+    go : (p : Parsed KeyLaid) → read_key_table key_table ≡ p → (a : KeyAnswer) × KeyDecides key_table key_request a
+    go (bad f) e = (key_answer.Fault f, by_keys.fault e)
+    go (got l n) e = asked (read_key_request key_request) refl
       where
-        asked : (o : Option KeyRequest) → read_key_request keyRequest ≡ o → (a : KeyAnswer) × KeyDecides keyTable keyRequest a
-        asked none f = (keyAnswer.Request, byKeys.request e f)
-        asked (some r) f = settle (rounds_find_the_greatest_by_keys (key_table_of l) (λ i x a. ((key_table_form keyTable l n b e).1.accesses i x a).depth) r)
+        asked : (o : Option KeyRequest) → read_key_request key_request ≡ o → (a : KeyAnswer) × KeyDecides key_table key_request a
+        asked none f = (key_answer.Request, by_keys.request e f)
+        asked (some r) f = settle (rounds_find_the_greatest_by_keys (key_table_of l) (λ i x a. ((key_table_form key_table l n b e).1.accesses i x a).depth) r)
           where
-            settle : {v : Verdict} → DecidesByKeys (key_table_of l) r v → (a : KeyAnswer) × KeyDecides keyTable keyRequest a
-            settle (greatest {d = d} g most) = (keyAnswer.Granted (record { 0 = d }), byKeys.granted e f (greatest g most))
-            settle (nothing g) = (keyAnswer.Denied, byKeys.denied e f (nothing g))
+            settle : {v : Verdict} → DecidesByKeys (key_table_of l) r v → (a : KeyAnswer) × KeyDecides key_table key_request a
+            settle (greatest {d = d} g most) = (key_answer.Granted (record { 0 = d }), by_keys.granted e f (greatest g most))
+            settle (nothing g) = (key_answer.Denied, by_keys.denied e f (nothing g))

@@ -203,9 +203,9 @@ sheet_row s ex size request sheet₀ derivation₀ x v a (promise.good_table f h
     good_sheet s ex size (subst (λ (t : Table). DecidesGood t request sheet₀ derivation₀ a x v) specimen_read.3 (subst (λ (l : LaidTable). DecidesGood (table_of l) request sheet₀ derivation₀ a x v) (got_one f specimen_read.2) h)) n
 
 -- ---- translations
-pub translation_row : (table keyTable : List ℕ) → Bytes table → ((before : List ℕ) → most_key_table ≤ length before → Answers table before (translated.Done (length keyTable)) (placed before 0 keyTable))
-    → (before after : List ℕ) (a : Translated) → most_key_table ≤ length before → Answers table before a after → (a ≡ translated.Done (length keyTable)) × (after ≡ placed before 0 keyTable)
-translation_row table keyTable b f before after a r h = translation_one table before b h (f before r)
+pub translation_row : (table key_table : List ℕ) → Bytes table → ((before : List ℕ) → most_key_table ≤ length before → Answers table before (translated.Done (length key_table)) (placed before 0 key_table))
+    → (before after : List ℕ) (a : Translated) → most_key_table ≤ length before → Answers table before a after → (a ≡ translated.Done (length key_table)) × (after ≡ placed before 0 key_table)
+translation_row table key_table b f before after a r h = translation_one table before b h (f before r)
 
 -- ---- bytes
 abbrev small : List ℕ → Bool

@@ -41,15 +41,15 @@ pub record TranslationFixed (table before : List ℕ) : Type 0 where
   pub left : 1 ≤ (of_translated answer).number → after ≡ before
 
 -- The decision over a key table has one answer, of the list. It is lent nothing to write to.
-pub record KeyDecisionFixed (keyTable keyRequest : List ℕ) : Type 0 where
+pub record KeyDecisionFixed (key_table key_request : List ℕ) : Type 0 where
   pub answer : KeyAnswer
-  pub promised : KeyDecides keyTable keyRequest answer
+  pub promised : KeyDecides key_table key_request answer
   pub listed : (of_key_answer answer).number ≤ 11
-  pub only : (a : KeyAnswer) → KeyDecides keyTable keyRequest a → answer ≡ a
+  pub only : (a : KeyAnswer) → KeyDecides key_table key_request a → answer ≡ a
 
 -- For every byte string and every lent buffer.
 pub record DemandOne : Type 0 where
   pub decision : (table request sheet derivation : List ℕ) → Bytes table → DecisionFixed table request sheet derivation
   pub check : (table request derivation : List ℕ) → Bytes table → CheckFixed table request derivation
   pub translation : (table buffer : List ℕ) → Bytes table → TranslationFixed table buffer
-  pub key_decision : (keyTable keyRequest : List ℕ) → Bytes keyTable → KeyDecisionFixed keyTable keyRequest
+  pub key_decision : (key_table key_request : List ℕ) → Bytes key_table → KeyDecisionFixed key_table key_request

@@ -17,7 +17,7 @@ use Rattle.decision.specs.declared.Decided.{Decided}
 use Rattle.decision.specs.declared.Decided.TheVariants as decided
 use Rattle.keytable.specs.Deciding.{KeyDecides}
 use Rattle.keytable.specs.declared.KeyAnswer.{KeyAnswer}
-use Rattle.keytable.specs.declared.KeyAnswer.TheVariants as byKeys
+use Rattle.keytable.specs.declared.KeyAnswer.TheVariants as by_keys
 use Rattle.translation.specs.Promise.{Answers}
 use Rattle.translation.specs.declared.Translated.{Translated}
 use Rattle.translation.specs.declared.Translated.TheVariants as translated
@@ -31,15 +31,15 @@ pub record Succeeds (a : Translated) (after : List ℕ) : Type 0 where
   pub loads : read_key_table (take length' after) ≡ got key_laid length'
 
 -- The same question, with keys: the subject's key, and the owner's own.
-pub record AsksTheSame (table request keyRequest : List ℕ) (x : Accepted table request) : Type 0 where
+pub record AsksTheSame (table request key_request : List ℕ) (x : Accepted table request) : Type 0 where
   pub owner : Key
   pub own : IsSelf (table_of x.laid).names.spaces x.asked.asked.owner owner
-  pub read : read_key_request keyRequest ≡ some (record { subject = x.key; asked = record { owner = owner; object = x.asked.asked.object; right = x.asked.asked.right } })
+  pub read : read_key_request key_request ≡ some (record { subject = x.key; asked = record { owner = owner; object = x.asked.asked.object; right = x.asked.asked.right } })
 
 -- The same grant at the same depth, or the same denial.
 pub record SameAnswer (a : Decided) (b : KeyAnswer) : Type 0 where
-  pub granted : (d : Depth) → ((n : ℕ) × (a ≡ decided.Granted d n)) ↔ (b ≡ byKeys.Granted d)
-  pub denied : (a ≡ decided.Denied) ↔ (b ≡ byKeys.Denied)
+  pub granted : (d : Depth) → ((n : ℕ) × (a ≡ decided.Granted d n)) ↔ (b ≡ by_keys.Granted d)
+  pub denied : (a ≡ decided.Denied) ↔ (b ≡ by_keys.Denied)
 
 -- The second table is the first without some of its records that name someone without a meaning.
 pub record TakenOut (l m : LaidTable) : Type 0 where
@@ -56,11 +56,11 @@ pub record DemandThree : Type 0 where
   pub succeeds : (table before after : List ℕ) (a : Translated) (l : LaidTable) (end : ℕ) → Bytes table → read_table table ≡ got l end → most_key_table ≤ length before
       → Answers table before a after → Succeeds a after
   -- The same question can be asked with keys,
-  pub asked : (table request : List ℕ) → Bytes table → Bytes request → (x : Accepted table request) → (keyRequest : List ℕ) × AsksTheSame table request keyRequest x
+  pub asked : (table request : List ℕ) → Bytes table → Bytes request → (x : Accepted table request) → (key_request : List ℕ) × AsksTheSame table request key_request x
   -- and gets the same answer.
-  pub same : (table before after request keyRequest sheet₀ derivation₀ sheet derivation : List ℕ) (n : ℕ) (a : Decided) (b : KeyAnswer) → Bytes table
-      → Answers table before (translated.Done n) after → (x : Accepted table request) → AsksTheSame table request keyRequest x → Room sheet₀ derivation₀ a
-      → Decides table request sheet₀ derivation₀ a sheet derivation → KeyDecides (take n after) keyRequest b → SameAnswer a b
+  pub same : (table before after request key_request sheet₀ derivation₀ sheet derivation : List ℕ) (n : ℕ) (a : Decided) (b : KeyAnswer) → Bytes table
+      → Answers table before (translated.Done n) after → (x : Accepted table request) → AsksTheSame table request key_request x → Room sheet₀ derivation₀ a
+      → Decides table request sheet₀ derivation₀ a sheet derivation → KeyDecides (take n after) key_request b → SameAnswer a b
   -- A record that names someone without a meaning gives access to nobody: it could as well be taken out.
   pub idle : (table table' request sheet₀ derivation₀ sheet derivation sheet' derivation' : List ℕ) (a b : Decided) → Bytes table → Bytes table' → (x : Accepted table request) (y : Accepted table' request)
       → TakenOut x.laid y.laid → Decides table request sheet₀ derivation₀ a sheet derivation → Room sheet₀ derivation₀ a → Decides table' request sheet₀ derivation₀ b sheet' derivation'

@@ -37,8 +37,8 @@ Says (sheet s) = (request sheet₀ derivation₀ x v : List ℕ) (a : Decided) �
 Says (decision request n d) = (sheet₀ derivation₀ x v : List ℕ) (a : Decided) → sheet_size ≤ length sheet₀ → most_derivation ≤ length derivation₀ → Decides T request sheet₀ derivation₀ a x v
     → ((of_decided a).number ≡ n) × ((of_decided a).depth ≡ d)
 Says (check request derivation n d) = (a : Checked) → Checks T request derivation a → ((of_checked a).number ≡ n) × ((of_checked a).depth ≡ d)
-Says (translation table keyTable) = (before after : List ℕ) (a : Translated) → most_key_table ≤ length before → Answers table before a after
-    → (a ≡ translated.Done (length keyTable)) × (after ≡ placed before 0 keyTable)
+Says (translation table key_table) = (before after : List ℕ) (a : Translated) → most_key_table ≤ length before → Answers table before a after
+    → (a ≡ translated.Done (length key_table)) × (after ≡ placed before 0 key_table)
 
 abbrev pub rows : List Row
 rows =

@@ -14,7 +14,7 @@ use Rattle.checker.specs.Promise as checks
 use Rattle.checker.specs.declared.Checked.{Checked}
 use Rattle.decision.specs.Promise as decides
 use Rattle.decision.specs.declared.Decided.{Decided}
-use Rattle.keytable.specs.Deciding as byKeys
+use Rattle.keytable.specs.Deciding as by_keys
 use Rattle.keytable.specs.declared.KeyAnswer.{KeyAnswer}
 use Rattle.translation.specs.Promise as translates
 use Rattle.translation.specs.declared.Translated.{Translated}
@@ -65,8 +65,8 @@ translated_fits bytes (translates.room e h) = bare_fits _
 translated_fits {table = table} {before = before} bytes (translates.done e r k) = short_fits 0 _ (omega (arith, (translation_loads table before bytes _ _ (translates.done e r k)).short))
 
 -- ---- the decision over a key table
-pub key_answer_fits : {table request : List ℕ} {a : KeyAnswer} → byKeys.KeyDecides table request a → Fits (of_key_answer a)
-key_answer_fits {table = table} (byKeys.fault {e = f} e) = fault_fits f (omega (arith, key_table_fault table f e))
-key_answer_fits (byKeys.request e h) = bare_fits _
-key_answer_fits (byKeys.denied e h d) = bare_fits _
-key_answer_fits (byKeys.granted e h d) = short_fits _ 0 (omega arith)
+pub key_answer_fits : {table request : List ℕ} {a : KeyAnswer} → by_keys.KeyDecides table request a → Fits (of_key_answer a)
+key_answer_fits {table = table} (by_keys.fault {e = f} e) = fault_fits f (omega (arith, key_table_fault table f e))
+key_answer_fits (by_keys.request e h) = bare_fits _
+key_answer_fits (by_keys.denied e h d) = bare_fits _
+key_answer_fits (by_keys.granted e h d) = short_fits _ 0 (omega arith)

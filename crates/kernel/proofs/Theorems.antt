@@ -15,7 +15,7 @@ use Rattle.decision.specs.declared.Decided.{Decided}
 use Rattle.decision.specs.declared.Decided.TheVariants as decided
 use Rattle.decision.proofs.Theorems.{decision_one}
 use Rattle.keytable.specs.declared.KeyAnswer.{KeyAnswer}
-use Rattle.keytable.specs.declared.KeyAnswer.TheVariants as byKeys
+use Rattle.keytable.specs.declared.KeyAnswer.TheVariants as by_keys
 use Rattle.keytable.proofs.Theorems.{key_decision_one}
 use Rattle.translation.proofs.Theorems.{translation_one}
 use Rattle.kernel.specs.Answers.{fault_number, of_decided, of_checked, of_translated, of_key_answer}
@@ -65,8 +65,8 @@ zero_is_accepted (checked.BadTable f) e = absurd (fault_is_not_zero f.kind e)
 zero_is_accepted checked.BadRequest e = absurd (omega (arith, e))
 zero_is_accepted checked.NotDerivation e = absurd (omega (arith, e))
 
-pub zero_is_granted_by_keys : (a : KeyAnswer) → (of_key_answer a).number ≡ 0 → (d : Depth) × (a ≡ byKeys.Granted d)
-zero_is_granted_by_keys (byKeys.Granted d) e = (d, refl)
-zero_is_granted_by_keys (byKeys.Fault f) e = absurd (fault_is_not_zero f.kind e)
-zero_is_granted_by_keys byKeys.Request e = absurd (omega (arith, e))
-zero_is_granted_by_keys byKeys.Denied e = absurd (omega (arith, e))
+pub zero_is_granted_by_keys : (a : KeyAnswer) → (of_key_answer a).number ≡ 0 → (d : Depth) × (a ≡ by_keys.Granted d)
+zero_is_granted_by_keys (by_keys.Granted d) e = (d, refl)
+zero_is_granted_by_keys (by_keys.Fault f) e = absurd (fault_is_not_zero f.kind e)
+zero_is_granted_by_keys by_keys.Request e = absurd (omega (arith, e))
+zero_is_granted_by_keys by_keys.Denied e = absurd (omega (arith, e))

@@ -8,7 +8,7 @@ use Rattle.checker.specs.declared.Checked.TheVariants as checked
 use Rattle.decision.specs.declared.Decided.{Decided}
 use Rattle.decision.specs.declared.Decided.TheVariants as decided
 use Rattle.keytable.specs.declared.KeyAnswer.{KeyAnswer}
-use Rattle.keytable.specs.declared.KeyAnswer.TheVariants as byKeys
+use Rattle.keytable.specs.declared.KeyAnswer.TheVariants as by_keys
 use Rattle.translation.specs.declared.Translated.{Translated}
 use Rattle.translation.specs.declared.Translated.TheVariants as translated
 use Rattle.kernel.specs.declared.answers.Answer.{Answer}
@@ -45,8 +45,8 @@ abbrev pub denied : ℕ
 denied = 11
 
 -- 12, Not a derivation: malformed, or does not hold.
-abbrev pub notADerivation : ℕ
-notADerivation = 12
+abbrev pub not_a_derivation : ℕ
+not_a_derivation = 12
 
 -- 13, Overrun: the derivation found does not fit in 512 bytes.
 abbrev pub overrun : ℕ
@@ -80,7 +80,7 @@ abbrev pub of_checked : Checked → Answer
 of_checked (checked.Accepted d) = succeeded d.0 0
 of_checked (checked.BadTable e) = of_fault e
 of_checked checked.BadRequest = bare wrong_request
-of_checked checked.NotDerivation = bare notADerivation
+of_checked checked.NotDerivation = bare not_a_derivation
 
 -- The translation: a finished one carries its length.
 abbrev pub of_translated : Translated → Answer
@@ -90,10 +90,10 @@ of_translated translated.Room = bare room
 
 -- The decision over a key table: a grant carries its depth alone.
 abbrev pub of_key_answer : KeyAnswer → Answer
-of_key_answer (byKeys.Granted d) = succeeded d.0 0
-of_key_answer (byKeys.Fault e) = of_fault e
-of_key_answer byKeys.Request = bare wrong_request
-of_key_answer byKeys.Denied = bare denied
+of_key_answer (by_keys.Granted d) = succeeded d.0 0
+of_key_answer (by_keys.Fault e) = of_fault e
+of_key_answer by_keys.Request = bare wrong_request
+of_key_answer by_keys.Denied = bare denied
 
 -- ---- as code holds them
 -- The values fit in 32 bits.

@@ -25,13 +25,13 @@ pub record TellsCheck (table request derivation : List ℕ) (r : Answer) : Type 
   pub told : r ≡ of_checked answer
 
 -- THE TRANSLATION as a host gets it.
-pub record TellsTranslation (table keyTable₀ : List ℕ) (r : Answer) (keyTable : List ℕ) : Type 0 where
+pub record TellsTranslation (table keyTable₀ : List ℕ) (r : Answer) (key_table : List ℕ) : Type 0 where
   pub answer : Translated
-  pub promised : Answers table keyTable₀ answer keyTable
+  pub promised : Answers table keyTable₀ answer key_table
   pub told : r ≡ of_translated answer
 
 -- THE DECISION OVER A KEY TABLE as a host gets it.
-pub record TellsKeyDecision (keyTable keyRequest : List ℕ) (r : Answer) : Type 0 where
+pub record TellsKeyDecision (key_table key_request : List ℕ) (r : Answer) : Type 0 where
   pub answer : KeyAnswer
-  pub promised : KeyDecides keyTable keyRequest answer
+  pub promised : KeyDecides key_table key_request answer
   pub told : r ≡ of_key_answer answer

@@ -69,12 +69,12 @@ module _ (s : List ℕ) (l : KeyLaid) (end : ℕ) (e : read_key_table s ≡ got 
   unfolding key_table_at
   table_at_lem = ap key_table_in e
 
-  pub table_known : Bytes s → (q : Asked Key) (accessPlaces : List ℕ) (n : ℕ) (delegationPlaces : List ℕ) (m : ℕ) → KeysKept s q accessPlaces n delegationPlaces m l
-      → Known s q (take n accessPlaces) (take m delegationPlaces)
-  table_known b q accessPlaces n delegationPlaces m w = record {
+  pub table_known : Bytes s → (q : Asked Key) (access_places : List ℕ) (n : ℕ) (delegation_places : List ℕ) (m : ℕ) → KeysKept s q access_places n delegation_places m l
+      → Known s q (take n access_places) (take m delegation_places)
+  table_known b q access_places n delegation_places m w = record {
     good = asked_good (key_table_at s) q (subst GoodKeyTable (sym table_at_lem) (key_table_form s l end b e).1);
-    accesses = placed_first key_access_record s accessPlaces n (asked_at s q).accesses
-        (subst (λ (t : KeyTable). Placed key_access_record s accessPlaces n (sift (access_asked q) t.accesses)) (sym table_at_lem) w.accesses);
-    delegations = placed_first key_delegation_record s delegationPlaces m (asked_at s q).delegations
-        (subst (λ (t : KeyTable). Placed key_delegation_record s delegationPlaces m (sift (delegation_asked q) t.delegations)) (sym table_at_lem) w.delegations);
+    accesses = placed_first key_access_record s access_places n (asked_at s q).accesses
+        (subst (λ (t : KeyTable). Placed key_access_record s access_places n (sift (access_asked q) t.accesses)) (sym table_at_lem) w.accesses);
+    delegations = placed_first key_delegation_record s delegation_places m (asked_at s q).delegations
+        (subst (λ (t : KeyTable). Placed key_delegation_record s delegation_places m (sift (delegation_asked q) t.delegations)) (sym table_at_lem) w.delegations);
   }

@@ -11,14 +11,14 @@ use Rattle.records.specs.Fields.{field_read, field_fault}
 use Rattle.records.specs.declared.faults.Kind.TheVariants as kind
 use Rattle.records.specs.declared.faults.Fault.{Fault}
 use Rattle.records.specs.declared.fields.Field.{Field}
-use Rattle.records.specs.declared.fields.Field.TheVariants as asField
+use Rattle.records.specs.declared.fields.Field.TheVariants as as_field
 use Rattle.records.proofs.ParsedLaws.{got_then, bad_first}
 use Rattle.records.proofs.FieldsLaws.{field_got, field_told}
 use Rattle.table.specs.Sections.{version, Part, section, section_of, section_read, section_fault}
 use Rattle.table.specs.ReadKeyTable.{most_key_table, KeyLaid, key_table_fields, read_key_table}
 use Rattle.table.specs.declared.loading.Section.{Section}
 use Rattle.table.specs.declared.loading.SectionRead.{SectionRead}
-use Rattle.table.specs.declared.loading.SectionRead.TheVariants as asSection
+use Rattle.table.specs.declared.loading.SectionRead.TheVariants as as_section
 use Rattle.table.proofs.SectionsLaws.{section_got, section_told, all_long, all_bad, all_got, all_more}
 use Rattle.table.proofs.LoadingLaws.{Besides, ill, well}
 use Rattle.table.proofs.KeyTableForm.{key_accesses_of, key_delegations_of}
@@ -51,30 +51,30 @@ module _ (s : List ℕ) (K : KeyLaid → Type 0) where
     is_bad e q = failed e (all_bad key_table_fields most_key_table s h e q)
 
     module _ (r₀ : Field) (found₀ : r₀ ≡ field_read (version 0 s 0)) where
-      pub version_bad : (g f : Fault) → r₀ ≡ asField.Fault g → f ≡ field_fault r₀ → Loads (loaded.Bad f)
+      pub version_bad : (g f : Fault) → r₀ ≡ as_field.Fault g → f ≡ field_fault r₀ → Loads (loaded.Bad f)
       unfolding key_table_fields
       version_bad g f e q = is_bad f (bad_first (version 0 s 0) _ (field_told (version 0 s 0) r₀ g f found₀ e q))
 
-      module _ (v a : ℕ) (e₀ : r₀ ≡ asField.Value v a) (r₁ : SectionRead) (found₁ : r₁ ≡ section_read (section most_accesses key_accesses_of s a)) where
+      module _ (v a : ℕ) (e₀ : r₀ ≡ as_field.Value v a) (r₁ : SectionRead) (found₁ : r₁ ≡ section_read (section most_accesses key_accesses_of s a)) where
         zero_th : version 0 s 0 ≡ got v a
         zero_th = field_got (version 0 s 0) r₀ v a found₀ e₀
 
-        pub accesses_bad : (g f : Fault) → r₁ ≡ asSection.Fault g → f ≡ section_fault r₁ → Loads (loaded.Bad f)
+        pub accesses_bad : (g f : Fault) → r₁ ≡ as_section.Fault g → f ≡ section_fault r₁ → Loads (loaded.Bad f)
         unfolding key_table_fields
         accesses_bad g f e q =
             is_bad f (got_then (version 0 s 0) _ zero_th ∙ bad_first (section most_accesses key_accesses_of s a) _ (section_told (section most_accesses key_accesses_of s a) r₁ g f found₁ e q))
 
-        module _ (x₁ : Section) (b : ℕ) (e₁ : r₁ ≡ asSection.Section x₁ b) (r₂ : SectionRead) (found₂ : r₂ ≡ section_read (section most_delegations key_delegations_of s b)) where
+        module _ (x₁ : Section) (b : ℕ) (e₁ : r₁ ≡ as_section.Section x₁ b) (r₂ : SectionRead) (found₂ : r₂ ≡ section_read (section most_delegations key_delegations_of s b)) where
           first : (p : Part KeyAccess) × (section most_accesses key_accesses_of s a ≡ got p b) × (section_of p ≡ x₁)
           first = section_got (section most_accesses key_accesses_of s a) r₁ x₁ b found₁ e₁
 
-          pub delegations_bad : (g f : Fault) → r₂ ≡ asSection.Fault g → f ≡ section_fault r₂ → Loads (loaded.Bad f)
+          pub delegations_bad : (g f : Fault) → r₂ ≡ as_section.Fault g → f ≡ section_fault r₂ → Loads (loaded.Bad f)
           unfolding key_table_fields
           delegations_bad g f e q =
               is_bad f (got_then (version 0 s 0) _ zero_th ∙ got_then (section most_accesses key_accesses_of s a) _ first.1
               ∙ bad_first (section most_delegations key_delegations_of s b) _ (section_told (section most_delegations key_delegations_of s b) r₂ g f found₂ e q))
 
-          module _ (x₂ : Section) (end : ℕ) (e₂ : r₂ ≡ asSection.Section x₂ end) where
+          module _ (x₂ : Section) (end : ℕ) (e₂ : r₂ ≡ as_section.Section x₂ end) where
             second : (p : Part KeyDelegation) × (section most_delegations key_delegations_of s b ≡ got p end) × (section_of p ≡ x₂)
             second = section_got (section most_delegations key_delegations_of s b) r₂ x₂ end found₂ e₂
 

@@ -57,12 +57,12 @@ pub record Placed {A : Type 0} (P : Reader A) (s places : List ℕ) (n : ℕ) (l
   pub standing : Standing P s places l
 
 -- What is kept of the records that were read.
-pub record KeysKept (s : List ℕ) (q : Asked Key) (accessPlaces : List ℕ) (n : ℕ) (delegationPlaces : List ℕ) (m : ℕ) (l : KeyLaid) : Type 0 where
-  pub accesses : Placed key_access_record s accessPlaces n (sift (access_asked q) l.accesses.records)
-  pub delegations : Placed key_delegation_record s delegationPlaces m (sift (delegation_asked q) l.delegations.records)
+pub record KeysKept (s : List ℕ) (q : Asked Key) (access_places : List ℕ) (n : ℕ) (delegation_places : List ℕ) (m : ℕ) (l : KeyLaid) : Type 0 where
+  pub accesses : Placed key_access_record s access_places n (sift (access_asked q) l.accesses.records)
+  pub delegations : Placed key_delegation_record s delegation_places m (sift (delegation_asked q) l.delegations.records)
 
 -- Good bytes, and where the records stand that are for what is asked.
-pub record Known (s : List ℕ) (q : Asked Key) (accessPlaces delegationPlaces : List ℕ) : Type 0 where
+pub record Known (s : List ℕ) (q : Asked Key) (access_places delegation_places : List ℕ) : Type 0 where
   pub good : GoodKeyTable (asked_at s q)
-  pub accesses : Placed key_access_record s accessPlaces (length accessPlaces) (asked_at s q).accesses
-  pub delegations : Placed key_delegation_record s delegationPlaces (length delegationPlaces) (asked_at s q).delegations
+  pub accesses : Placed key_access_record s access_places (length access_places) (asked_at s q).accesses
+  pub delegations : Placed key_delegation_record s delegation_places (length delegation_places) (asked_at s q).delegations

@@ -18,7 +18,7 @@ use Rattle.records.specs.Paths.{path_of}
 use Rattle.records.specs.Targets.{target_of}
 use Rattle.records.specs.declared.paths.Path.{Path}
 use Rattle.records.specs.declared.targets.Target.{Target as TargetValue}
-use Rattle.records.specs.declared.targets.Target.TheVariants as asTarget
+use Rattle.records.specs.declared.targets.Target.TheVariants as as_target
 use Rattle.table.specs.Finding.{FindsSpace, keys_of, FindsNamed}
 use Rattle.table.specs.declared.finding.SpaceFound.{SpaceFound}
 use Rattle.table.specs.declared.finding.SpaceFound.TheVariants as space
@@ -129,9 +129,9 @@ name_marked t keys names sheet index exact S p h m after w =
     adds_as (λ i. let e = through_by_sheet t index.good sheet exact (own_key t keys names index S h) p i in (e.1, e.0)) w
 
 -- ---- a whole target
-pub key_marked : (t : NameTable) (g : TargetValue) (k : Key) → g ≡ asTarget.Key k → (m : List Bool) → Adds (TargetThrough t (target_of g)) m m
+pub key_marked : (t : NameTable) (g : TargetValue) (k : Key) → g ≡ as_target.Key k → (m : List Bool) → Adds (TargetThrough t (target_of g)) m m
 key_marked t g k e m = subst (λ (h : TargetValue). Adds (TargetThrough t (target_of h)) m m) (sym e) (adds_none m (λ i w. w))
 
-pub target_marked : (t : NameTable) (g : TargetValue) (S : Space) (p : Path) → g ≡ asTarget.Name S p → (m after : List Bool)
+pub target_marked : (t : NameTable) (g : TargetValue) (S : Space) (p : Path) → g ≡ as_target.Name S p → (m after : List Bool)
     → Adds (Through t S (path_of p)) m after → Adds (TargetThrough t (target_of g)) m after
 target_marked t g S p e m after w = subst (λ (h : TargetValue). Adds (TargetThrough t (target_of h)) m after) (sym e) w

@@ -12,7 +12,7 @@ use Rattle.records.specs.Targets.{target_of}
 use Rattle.records.specs.Requests.{read_request, request_read, request_value}
 use Rattle.records.specs.declared.requests.Request.{Request as RequestValue}
 use Rattle.records.specs.declared.requests.RequestRead.{RequestRead}
-use Rattle.records.specs.declared.requests.RequestRead.TheVariants as asRequest
+use Rattle.records.specs.declared.requests.RequestRead.TheVariants as as_request
 use Rattle.records.proofs.RequestsForm.{request_form}
 use Rattle.table.specs.ReadTable.{table_at}
 use Rattle.sheet.specs.Finds.{FittingTarget}
@@ -21,11 +21,11 @@ use Rattle.matching.specs.Matching.{asked_of, Held}
 use Rattle.matching.proofs.MatchingLaws.{few_spaces_lem}
 
 -- ---- what the reader's answer says
-request_not : (p : Option Request) (r : RequestRead) → r ≡ request_read p → r ≡ asRequest.Not → p ≡ none
+request_not : (p : Option Request) (r : RequestRead) → r ≡ request_read p → r ≡ as_request.Not → p ≡ none
 request_not none r e h = refl
 request_not (some x) r e h = let z : ◌≡◌ {A = ℕ} 0 1 = cc in absurd (omega arith)
 
-request_is : (p : Option Request) (r : RequestRead) (v : RequestValue) → r ≡ request_read p → r ≡ asRequest.Request v → (x : Request) × (p ≡ some x) × (v ≡ request_value x)
+request_is : (p : Option Request) (r : RequestRead) (v : RequestValue) → r ≡ request_read p → r ≡ as_request.Request v → (x : Request) × (p ≡ some x) × (v ≡ request_value x)
 request_is none r v e h = let z : ◌≡◌ {A = ℕ} 0 1 = cc in absurd (omega arith)
 request_is (some x) r v e h = let q : v ≡ request_value x = cc in (x, refl, q)
 
@@ -41,10 +41,10 @@ module _ (s keys names accesses delegations : List ℕ) (held : Held s keys name
   spaces : length (table_at s).names.spaces ≡ length keys
   spaces = index_spaces (table_at s).names keys names held.index
 
-  pub asks_nothing : asked ≡ asRequest.Not → read_request (length (table_at s).names.spaces) request ≡ none
+  pub asks_nothing : asked ≡ as_request.Not → read_request (length (table_at s).names.spaces) request ≡ none
   asks_nothing e = ap (λ (n : ℕ). read_request n request) spaces ∙ request_not (read_request (length keys) request) asked read e
 
-  module _ (bytes : Bytes request) (wish : RequestValue) (e : asked ≡ asRequest.Request wish) where
+  module _ (bytes : Bytes request) (wish : RequestValue) (e : asked ≡ as_request.Request wish) where
     is : (x : Request) × (read_request (length keys) request ≡ some x) × (wish ≡ request_value x)
     is = request_is (read_request (length keys) request) asked wish read e
 

@@ -23,10 +23,10 @@ use Rattle.records.specs.declared.fields.Use.{Use}
 use Rattle.records.specs.declared.paths.Path.{Path as PathValue}
 use Rattle.records.specs.declared.accesses.Access.{Access}
 use Rattle.records.specs.declared.accesses.AccessRead.{AccessRead}
-use Rattle.records.specs.declared.accesses.AccessRead.TheVariants as asAccess
+use Rattle.records.specs.declared.accesses.AccessRead.TheVariants as as_access
 use Rattle.records.specs.declared.delegations.Delegation.{Delegation as DelegationValue}
 use Rattle.records.specs.declared.delegations.DelegationRead.{DelegationRead}
-use Rattle.records.specs.declared.delegations.DelegationRead.TheVariants as asDelegation
+use Rattle.records.specs.declared.delegations.DelegationRead.TheVariants as as_delegation
 use Rattle.records.proofs.FormatLaws.{Walks}
 use Rattle.records.proofs.RecordsForm.{access_walks, delegation_walks}
 use Rattle.table.specs.ReadTable.{table_at}
@@ -40,23 +40,23 @@ use Rattle.sheet.proofs.FindsLaws.{own_key, finds_key, finds_none, leads_one}
 use Rattle.sheet.proofs.MeaningLaws.{path_fits, path_back, index_spaces}
 use Rattle.matching.specs.Matching.{told, asked_of, GivesTo, HandsOn, Gives, to, not_given, Hands, on, not_handed, Held}
 use Rattle.matching.specs.declared.Given.{Given}
-use Rattle.matching.specs.declared.Given.TheVariants as asGiven
+use Rattle.matching.specs.declared.Given.TheVariants as as_given
 use Rattle.matching.specs.declared.Handed.{Handed}
-use Rattle.matching.specs.declared.Handed.TheVariants as asHanded
+use Rattle.matching.specs.declared.Handed.TheVariants as the_handed
 
 -- ---- what was found
-pub gives_to : {P : Key → ℕ → Type 0} {r : Given} {k : Key} {d : Depth} → Gives P r → r ≡ asGiven.To k d → P k d.0
+pub gives_to : {P : Key → ℕ → Type 0} {r : Given} {k : Key} {d : Depth} → Gives P r → r ≡ as_given.To k d → P k d.0
 gives_to {P} {k = k} {d = d} (to m b w) e =
     let p : m ≡ k = cc in
     let q : b ≡ d = cc in
     subst (λ (x : Key). P x d.0) p (subst (λ (x : Depth). P m x.0) q w)
 gives_to (not_given f) e = let z : ◌≡◌ {A = ℕ} 0 1 = cc in absurd (omega arith)
 
-pub gives_none : {P : Key → ℕ → Type 0} {r : Given} → Gives P r → r ≡ asGiven.Nothing → (k : Key) (d : ℕ) → P k d → ⊥
+pub gives_none : {P : Key → ℕ → Type 0} {r : Given} → Gives P r → r ≡ as_given.Nothing → (k : Key) (d : ℕ) → P k d → ⊥
 gives_none (to m b w) e k d p = let z : ◌≡◌ {A = ℕ} 0 1 = cc in absurd (omega arith)
 gives_none (not_given f) e k d p = f k d p
 
-pub hands_on : {P : Space → Key → ℕ → Type 0} {r : Handed} {S : Space} {k : Key} {d : Depth} → Hands P r → r ≡ asHanded.On S k d → P S k d.0
+pub hands_on : {P : Space → Key → ℕ → Type 0} {r : Handed} {S : Space} {k : Key} {d : Depth} → Hands P r → r ≡ the_handed.On S k d → P S k d.0
 hands_on {P} {S = S} {k = k} {d = d} (on T m b w) e =
     let o : T ≡ S = cc in
     let p : m ≡ k = cc in
@@ -64,7 +64,7 @@ hands_on {P} {S = S} {k = k} {d = d} (on T m b w) e =
     subst (λ (x : Space). P x k d.0) o (subst (λ (x : Key). P T x d.0) p (subst (λ (x : Depth). P T m x.0) q w))
 hands_on (not_handed f) e = let z : ◌≡◌ {A = ℕ} 0 1 = cc in absurd (omega arith)
 
-pub hands_none : {P : Space → Key → ℕ → Type 0} {r : Handed} → Hands P r → r ≡ asHanded.Nothing → (S : Space) (k : Key) (d : ℕ) → P S k d → ⊥
+pub hands_none : {P : Space → Key → ℕ → Type 0} {r : Handed} → Hands P r → r ≡ the_handed.Nothing → (S : Space) (k : Key) (d : ℕ) → P S k d → ⊥
 hands_none (on T m b w) e S k d p = let z : ◌≡◌ {A = ℕ} 0 1 = cc in absurd (omega arith)
 hands_none (not_handed f) e S k d p = f S k d p
 
@@ -99,24 +99,24 @@ module _ (s keys names accesses delegations : List ℕ) (held : Held s keys name
   access_place = omega (arith, held.access_count)
 
   module _ (r : AccessRead) (found : r ≡ access_read (access_record (length keys) (rest s (get_or accesses i 0)) 0)) where
-    reads : (n : ℕ) × (r ≡ asAccess.Access (access_value x) n)
+    reads : (n : ℕ) × (r ≡ as_access.Access (access_value x) n)
     reads = let b = stands_back (access_record (length keys)) (access_walks (length keys)) s accesses (table_at s).accesses held.accesses i x here in (b.0, found ∙ ap access_read b.1)
 
-    pub access_never : (f : Fault) → r ≡ asAccess.Fault f → ⊥
+    pub access_never : (f : Fault) → r ≡ as_access.Fault f → ⊥
     access_never f e =
         let w = reads in
-        let z : asAccess.Access (access_value x) w.0 ≡ asAccess.Fault f = sym w.1 ∙ e in
+        let z : as_access.Access (access_value x) w.0 ≡ as_access.Fault f = sym w.1 ∙ e in
         let y : ◌≡◌ {A = ℕ} 0 1 = cc in
         absurd (omega arith)
 
-    pub access_fault : (sheet : List ℕ) (q : Asked Space) (f : Fault) → r ≡ asAccess.Fault f → Gives (GivesTo (table_at s) sheet q i) asGiven.Nothing
+    pub access_fault : (sheet : List ℕ) (q : Asked Space) (f : Fault) → r ≡ as_access.Fault f → Gives (GivesTo (table_at s) sheet q i) as_given.Nothing
     access_fault sheet q f e = absurd (access_never f e)
 
-    module _ (v : Access) (n : ℕ) (e : r ≡ asAccess.Access v n) where
+    module _ (v : Access) (n : ℕ) (e : r ≡ as_access.Access v n) where
       is : v ≡ access_value x
       is =
           let w = reads in
-          let z : asAccess.Access (access_value x) w.0 ≡ asAccess.Access v n = sym w.1 ∙ e in
+          let z : as_access.Access (access_value x) w.0 ≡ as_access.Access v n = sym w.1 ∙ e in
           let y : access_value x ≡ v = cc z in
           sym y
 
@@ -137,13 +137,13 @@ module _ (s keys names accesses delegations : List ℕ) (held : Held s keys name
         same : {k : Key} {d : ℕ} (w : GivesTo (table_at s) sheet (asked_of owner wanted) i k d) → x ≡ record { owner = owner; object = wanted.object; right = wanted.right; path = w.name.path; depth = d }
         same w = at_one here w.lists.at
 
-        pub other_owner : (v.owner.0 ≡ owner.0 → ⊥) → AccessGives asGiven.Nothing
+        pub other_owner : (v.owner.0 ≡ owner.0 → ⊥) → AccessGives as_given.Nothing
         other_owner f = not_given (λ k d w. f (ap (λ (y : Access). y.owner.0) is ∙ ap (λ (y : AccessRecord). y.owner.0) (same w)))
 
-        pub other_object : (v.wanted.object ≡ wanted.object → ⊥) → AccessGives asGiven.Nothing
+        pub other_object : (v.wanted.object ≡ wanted.object → ⊥) → AccessGives as_given.Nothing
         other_object f = not_given (λ k d w. f (ap (λ (y : Access). y.wanted.object) is ∙ ap (λ (y : AccessRecord). y.object) (same w)))
 
-        pub other_right : (v.wanted.right ≡ wanted.right → ⊥) → AccessGives asGiven.Nothing
+        pub other_right : (v.wanted.right ≡ wanted.right → ⊥) → AccessGives as_given.Nothing
         other_right f = not_given (λ k d w. f (ap (λ (y : Access). y.wanted.right) is ∙ ap (λ (y : AccessRecord). y.right) (same w)))
 
         module _ (a : Followed) (end : Finds (NameLeads (table_at s).names (InSheet (table_at s).names sheet) v.owner (path_of v.path)) a) where
@@ -152,12 +152,12 @@ module _ (s keys names accesses delegations : List ℕ) (held : Held s keys name
               leads_as x.path (held.good.accesses i x here).path v.path (ap (λ (y : Access). y.path) is) (table_at s) sheet x.owner a
               (subst (λ (S : Space). Finds (NameLeads (table_at s).names (InSheet (table_at s).names sheet) S (path_of v.path)) a) (ap (λ (y : Access). y.owner) is) end)
 
-          pub access_leads_nowhere : a ≡ followed.Nothing → AccessGives asGiven.Nothing
+          pub access_leads_nowhere : a ≡ followed.Nothing → AccessGives as_given.Nothing
           access_leads_nowhere g =
               not_given (λ k d w. finds_none leads g k
               (subst (λ (y : AccessRecord). told (table_at s) sheet y.owner y.path k) (sym (same w)) (subst (λ (S : Space). told (table_at s) sheet S w.name.path k) w.lists.of_owner w.leads)))
 
-          pub access_gives : (k : Key) → a ≡ followed.Key k → v.owner.0 ≡ owner.0 → v.wanted.object ≡ wanted.object → v.wanted.right ≡ wanted.right → AccessGives (asGiven.To k v.depth)
+          pub access_gives : (k : Key) → a ≡ followed.Key k → v.owner.0 ≡ owner.0 → v.wanted.object ≡ wanted.object → v.wanted.right ≡ wanted.right → AccessGives (as_given.To k v.depth)
           access_gives k g o b c = to k v.depth (record { name = record { space = owner; path = x.path }; lists = record { of_owner = refl; at = at }; leads = from })
             where
               o' : x.owner ≡ owner
@@ -192,26 +192,26 @@ module _ (s keys names accesses delegations : List ℕ) (held : Held s keys name
   delegation_place = omega (arith, held.delegation_count)
 
   module _ (r : DelegationRead) (found : r ≡ delegation_read (delegation_record (length keys) (rest s (get_or delegations j 0)) 0)) where
-    read : (n : ℕ) × (r ≡ asDelegation.Delegation (delegation_value y) n)
+    read : (n : ℕ) × (r ≡ as_delegation.Delegation (delegation_value y) n)
     read =
         let b = stands_back (delegation_record (length keys)) (delegation_walks (length keys)) s delegations (table_at s).delegations held.delegations j y there in
         (b.0, found ∙ ap delegation_read b.1)
 
-    pub delegation_never : (f : Fault) → r ≡ asDelegation.Fault f → ⊥
+    pub delegation_never : (f : Fault) → r ≡ as_delegation.Fault f → ⊥
     delegation_never f e =
         let w = read in
-        let z : asDelegation.Delegation (delegation_value y) w.0 ≡ asDelegation.Fault f = sym w.1 ∙ e in
+        let z : as_delegation.Delegation (delegation_value y) w.0 ≡ as_delegation.Fault f = sym w.1 ∙ e in
         let u : ◌≡◌ {A = ℕ} 0 1 = cc in
         absurd (omega arith)
 
-    pub delegation_fault : (sheet : List ℕ) (q : Asked Space) (f : Fault) → r ≡ asDelegation.Fault f → Hands (HandsOn (table_at s) sheet q j) asHanded.Nothing
+    pub delegation_fault : (sheet : List ℕ) (q : Asked Space) (f : Fault) → r ≡ as_delegation.Fault f → Hands (HandsOn (table_at s) sheet q j) the_handed.Nothing
     delegation_fault sheet q f e = absurd (delegation_never f e)
 
-    module _ (v : DelegationValue) (n : ℕ) (e : r ≡ asDelegation.Delegation v n) where
+    module _ (v : DelegationValue) (n : ℕ) (e : r ≡ as_delegation.Delegation v n) where
       its : v ≡ delegation_value y
       its =
           let w = read in
-          let z : asDelegation.Delegation (delegation_value y) w.0 ≡ asDelegation.Delegation v n = sym w.1 ∙ e in
+          let z : as_delegation.Delegation (delegation_value y) w.0 ≡ as_delegation.Delegation v n = sym w.1 ∙ e in
           let u : delegation_value y ≡ v = cc z in
           sym u
 
@@ -237,10 +237,10 @@ module _ (s keys names accesses delegations : List ℕ) (held : Held s keys name
             → y ≡ record { writer = S; owner_path = w.writes.owner_path; object = wanted.object; right = wanted.right; delegatee_path = w.path; depth = d }
         one w = at_one there w.writes.at
 
-        pub for_other_object : (v.wanted.object ≡ wanted.object → ⊥) → DelegationHands asHanded.Nothing
+        pub for_other_object : (v.wanted.object ≡ wanted.object → ⊥) → DelegationHands the_handed.Nothing
         for_other_object f = not_handed (λ S k d w. f (ap (λ (u : DelegationValue). u.wanted.object) its ∙ ap (λ (u : Delegation). u.object) (one w)))
 
-        pub for_other_right : (v.wanted.right ≡ wanted.right → ⊥) → DelegationHands asHanded.Nothing
+        pub for_other_right : (v.wanted.right ≡ wanted.right → ⊥) → DelegationHands the_handed.Nothing
         for_other_right f = not_handed (λ S k d w. f (ap (λ (u : DelegationValue). u.wanted.right) its ∙ ap (λ (u : Delegation). u.right) (one w)))
 
         module _ (a : Followed) (end : Finds (NameLeads (table_at s).names (InSheet (table_at s).names sheet) v.writer (path_of v.owner)) a) where
@@ -253,14 +253,14 @@ module _ (s keys names accesses delegations : List ℕ) (held : Held s keys name
           owner_told : {S : Space} {k : Key} {d : ℕ} (w : HandsOn (table_at s) sheet (asked_of owner wanted) j S k d) → told (table_at s) sheet y.writer y.owner_path w.writes.owner_key
           owner_told w = subst (λ (u : Delegation). told (table_at s) sheet u.writer u.owner_path w.writes.owner_key) (sym (one w)) w.writes.owner_means
 
-          pub owner_nowhere : a ≡ followed.Nothing → DelegationHands asHanded.Nothing
+          pub owner_nowhere : a ≡ followed.Nothing → DelegationHands the_handed.Nothing
           owner_nowhere g = not_handed (λ S k d w. finds_none owner_leads g w.writes.owner_key (owner_told w))
 
           module _ (m : Key) (g : a ≡ followed.Key m) (low : owner.0 < length keys) where
             owner_self_lem : IsSelf (table_at s).names.spaces owner (record { 0 = get_or keys owner.0 0 })
             owner_self_lem = own_key (table_at s).names keys names held.index owner low
 
-            pub owner_other : (m.0 ≡ get_or keys owner.0 0 → ⊥) → DelegationHands asHanded.Nothing
+            pub owner_other : (m.0 ≡ get_or keys owner.0 0 → ⊥) → DelegationHands the_handed.Nothing
             owner_other f =
                 not_handed (λ S k d w.
                 let p = leads_one (table_at s).names held.good.names sheet y.writer y.owner_path m w.writes.owner_key (finds_key owner_leads g) (owner_told w) in
@@ -272,12 +272,12 @@ module _ (s keys names accesses delegations : List ℕ) (held : Held s keys name
                   leads_as y.delegatee_path (held.good.delegations j y there).delegatee_path v.delegatee (ap (λ (u : DelegationValue). u.delegatee) its) (table_at s) sheet y.writer b
                   (subst (λ (S : Space). Finds (NameLeads (table_at s).names (InSheet (table_at s).names sheet) S (path_of v.delegatee)) b) (ap (λ (u : DelegationValue). u.writer) its) goal)
 
-              pub delegatee_nowhere : b ≡ followed.Nothing → DelegationHands asHanded.Nothing
+              pub delegatee_nowhere : b ≡ followed.Nothing → DelegationHands the_handed.Nothing
               delegatee_nowhere z =
                   not_handed (λ S k d w. finds_none delegatee_leads z k (subst (λ (u : Delegation). told (table_at s) sheet u.writer u.delegatee_path k) (sym (one w)) w.leads))
 
               pub delegation_hands : (k : Key) → b ≡ followed.Key k → m.0 ≡ get_or keys owner.0 0 → v.wanted.object ≡ wanted.object → v.wanted.right ≡ wanted.right
-                  → DelegationHands (asHanded.On v.writer k v.depth)
+                  → DelegationHands (the_handed.On v.writer k v.depth)
               delegation_hands k z o b c = on v.writer k v.depth (record {
                 path = y.delegatee_path;
                 writer = record { 0 = get_or keys v.writer.0 0 };

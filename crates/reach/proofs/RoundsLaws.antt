@@ -117,12 +117,12 @@ module _ (edges best by : List ℕ) (e : ℕ) (rose : Bool) (near far depth code
   turn_raised h = rw (code_gives, far_node) (raised (rw (code_gives, far_node) at h))
 
 -- ---- a round
-module _ (from to depths : List ℕ) (before byBefore : List ℕ) where
-  pub round_start : Lent before byBefore → Round from to depths before byBefore 0 before byBefore false
+module _ (from to depths : List ℕ) (before by_before : List ℕ) where
+  pub round_start : Lent before by_before → Round from to depths before by_before 0 before by_before false
   round_start l = record { size = refl; links = refl; lent = l; risen = λ start r. r; progress = still refl (λ j h. absurd (omega arith)) }
 
-  pub round_on : (best by : List ℕ) (e : ℕ) (best' by' : List ℕ) (r r' : Bool) → Edges from to depths (length before) → e < length from → Round from to depths before byBefore e best by r
-      → Turn from to depths e best by r best' by' r' → Round from to depths before byBefore (e + 1) best' by' r'
+  pub round_on : (best by : List ℕ) (e : ℕ) (best' by' : List ℕ) (r r' : Bool) → Edges from to depths (length before) → e < length from → Round from to depths before by_before e best by r
+      → Turn from to depths e best by r best' by' r' → Round from to depths before by_before (e + 1) best' by' r'
   unfolding raised_best raised_by code
   round_on best by e best' by' r r' edges h w (quiet q) = record { size = w.size; links = w.links; lent = w.lent; risen = w.risen; progress = go r w.progress }
     where
@@ -148,10 +148,10 @@ module _ (from to depths : List ℕ) (before byBefore : List ℕ) where
       go _ (rose s) l = omega (arith, s, l)
       go _ (still s k) l = omega (arith, ap spare s, l)
 
-  pub round_edges : (best by : List ℕ) (e : ℕ) (r : Bool) → Edges from to depths (length before) → Round from to depths before byBefore e best by r → Edges from to depths (length best)
+  pub round_edges : (best by : List ℕ) (e : ℕ) (r : Bool) → Edges from to depths (length before) → Round from to depths before by_before e best by r → Edges from to depths (length best)
   round_edges best by e r edges w = rw w.size edges
 
-  pub round_end : (best by : List ℕ) (e : ℕ) (r : Bool) → Round from to depths before byBefore e best by r → e ≤ length from → length from ≤ e → Round from to depths before byBefore (length from) best by r
+  pub round_end : (best by : List ℕ) (e : ℕ) (r : Bool) → Round from to depths before by_before e best by r → e ≤ length from → length from ≤ e → Round from to depths before by_before (length from) best by r
   round_end best by e r w g h = let i : length from ≡ e = omega arith in rw i w
 
 -- ---- rounds until one changes nothing

@@ -25,9 +25,9 @@ module _ (from to depths : List ℕ) where
     still : best ≡ before → ((j : ℕ) → j < e → Quiet best j) → Progress before e best false
 
   -- A round over the first `e` edges: whatever the codes rose from, they still rose from it.
-  pub record Round (before byBefore : List ℕ) (e : ℕ) (best by : List ℕ) (rose : Bool) : Type 0 where
+  pub record Round (before by_before : List ℕ) (e : ℕ) (best by : List ℕ) (rose : Bool) : Type 0 where
     pub size : length best ≡ length before
-    pub links : length by ≡ length byBefore
+    pub links : length by ≡ length by_before
     pub lent : Lent best by
-    pub risen : (start : List ℕ) → Risen from to depths start before byBefore → Risen from to depths start best by
+    pub risen : (start : List ℕ) → Risen from to depths start before by_before → Risen from to depths start best by
     pub progress : Progress before e best rose

@@ -21,7 +21,7 @@ use Rattle.records.specs.Accesses.{access_record}
 use Rattle.records.specs.Delegations.{delegation_record}
 use Rattle.records.specs.KeyRecords.{key_access_record, key_delegation_record}
 use Rattle.records.specs.Passing.{Passes, PassesField, PassesBinding, Sifts, is_for}
-use Rattle.records.specs.declared.fields.Field.TheVariants as asField
+use Rattle.records.specs.declared.fields.Field.TheVariants as as_field
 use Rattle.records.proofs.FieldsLaws.{field_within}
 use Rattle.records.proofs.ParsedLaws.{got_then, both_got, mapped_got}
 
@@ -61,7 +61,7 @@ module _ (low high : ℕ) (s : List ℕ) (at : ℕ) (r : Glance) (g : Glances lo
 
 -- A base name that is told is in its range.
 pub base_within : (s : List ℕ) (at : ℕ) (r : Glance) → PassesField (field 1 most_base) s at r → (r.next ≡ 0 → ⊥) → r.value ≤ most_base
-base_within s at r g z = (field_within s at 1 most_base (asField.Value r.value r.next) r.value r.next (ap field_read (sym (g.good (omega arith)))) refl).1
+base_within s at r g z = (field_within s at 1 most_base (as_field.Value r.value r.next) r.value r.next (ap field_read (sym (g.good (omega arith)))) refl).1
 
 module _ (s : List ℕ) (at : ℕ) (r : Glance) where
   pub key_is : PassesField (field 1 most_key) s at r → 0 < r.next → key_field s at ≡ got (record { 0 = r.value }) r.next

@@ -15,8 +15,8 @@ use Rattle.records.specs.Requests.{most_request, whole, request_fields, key_requ
 use Rattle.records.specs.declared.faults.Fault.{Fault}
 use Rattle.records.specs.declared.fields.Use.{Use}
 use Rattle.records.specs.declared.targets.Target.{Target as TargetValue}
-use Rattle.records.specs.declared.requests.RequestRead.TheVariants as asRequest
-use Rattle.records.specs.declared.requests.KeyRequestRead.TheVariants as asKeyRequest
+use Rattle.records.specs.declared.requests.RequestRead.TheVariants as as_request
+use Rattle.records.specs.declared.requests.KeyRequestRead.TheVariants as as_key_request
 use Rattle.records.proofs.ParsedLaws.{both_got, mapped_got}
 
 -- ---- from the first byte to the last
@@ -35,11 +35,11 @@ module _ {A : Type 0} (P : Reader A) (s : List ℕ) where
 
 -- ---- a request
 module _ (spaces : ℕ) (s : List ℕ) where
-  pub request_not : (e : Fault) → length s ≤ most_request → request_fields spaces s 0 ≡ bad e → asRequest.Not ≡ request_read (read_request spaces s)
+  pub request_not : (e : Fault) → length s ≤ most_request → request_fields spaces s 0 ≡ bad e → as_request.Not ≡ request_read (read_request spaces s)
   unfolding read_request
   request_not e h g = ap request_read (sym (whole_bad (request_fields spaces) s most_request e h g))
 
-  pub request_long : most_request < length s → asRequest.Not ≡ request_read (read_request spaces s)
+  pub request_long : most_request < length s → as_request.Not ≡ request_read (read_request spaces s)
   unfolding read_request
   request_long h = ap request_read (sym (whole_long (request_fields spaces) s most_request h))
 
@@ -49,23 +49,23 @@ module _ (spaces : ℕ) (s : List ℕ) where
     unfolding request_fields
     request_read_lem = mapped_got _ _ _ _ (both_got (target_field spaces) (space_field spaces ⊗ use_fields) s 0 w.1 (both_got (space_field spaces) use_fields s a e f))
 
-    pub request_found : next ≡ length s → asRequest.Request (record { subject = v; owner = S; wanted = u }) ≡ request_read (read_request spaces s)
+    pub request_found : next ≡ length s → as_request.Request (record { subject = v; owner = S; wanted = u }) ≡ request_read (read_request spaces s)
     unfolding read_request
     request_found q =
-        ap (λ (x : TargetValue). asRequest.Request (record { subject = x; owner = S; wanted = u })) w.2
+        ap (λ (x : TargetValue). as_request.Request (record { subject = x; owner = S; wanted = u })) w.2
         ∙ ap request_read (sym (whole_got (request_fields spaces) s most_request _ next h request_read_lem q))
 
-    pub request_more : (next ≡ length s → ⊥) → asRequest.Not ≡ request_read (read_request spaces s)
+    pub request_more : (next ≡ length s → ⊥) → as_request.Not ≡ request_read (read_request spaces s)
     unfolding read_request
     request_more q = ap request_read (sym (whole_more (request_fields spaces) s most_request _ next h request_read_lem q))
 
 -- ---- a key request
 module _ (s : List ℕ) where
-  pub key_request_not : (e : Fault) → length s ≤ most_request → key_request_fields s 0 ≡ bad e → asKeyRequest.Not ≡ key_request_read (read_key_request s)
+  pub key_request_not : (e : Fault) → length s ≤ most_request → key_request_fields s 0 ≡ bad e → as_key_request.Not ≡ key_request_read (read_key_request s)
   unfolding read_key_request
   key_request_not e h g = ap key_request_read (sym (whole_bad key_request_fields s most_request e h g))
 
-  pub key_request_long : most_request < length s → asKeyRequest.Not ≡ key_request_read (read_key_request s)
+  pub key_request_long : most_request < length s → as_key_request.Not ≡ key_request_read (read_key_request s)
   unfolding read_key_request
   key_request_long h = ap key_request_read (sym (whole_long key_request_fields s most_request h))
 
@@ -74,10 +74,10 @@ module _ (s : List ℕ) where
     unfolding key_request_fields
     key_request_read_lem = mapped_got _ _ _ _ (both_got key_field (key_field ⊗ use_fields) s 0 d (both_got key_field use_fields s a e f))
 
-    pub key_request_found : next ≡ length s → asKeyRequest.KeyRequest (record { subject = k; owner = l; wanted = u }) ≡ key_request_read (read_key_request s)
+    pub key_request_found : next ≡ length s → as_key_request.KeyRequest (record { subject = k; owner = l; wanted = u }) ≡ key_request_read (read_key_request s)
     unfolding read_key_request
     key_request_found q = ap key_request_read (sym (whole_got key_request_fields s most_request _ next h key_request_read_lem q))
 
-    pub key_request_more : (next ≡ length s → ⊥) → asKeyRequest.Not ≡ key_request_read (read_key_request s)
+    pub key_request_more : (next ≡ length s → ⊥) → as_key_request.Not ≡ key_request_read (read_key_request s)
     unfolding read_key_request
     key_request_more q = ap key_request_read (sym (whole_more key_request_fields s most_request _ next h key_request_read_lem q))

@@ -7,7 +7,7 @@ use Rattle.records.specs.Fields.{space_field, use_fields, depth_field}
 use Rattle.records.specs.Paths.{path_field, path_bytes, path_value}
 use Rattle.records.specs.declared.accesses.Access.{Access}
 use Rattle.records.specs.declared.accesses.AccessRead.{AccessRead}
-use Rattle.records.specs.declared.accesses.AccessRead.TheVariants as asAccess
+use Rattle.records.specs.declared.accesses.AccessRead.TheVariants as as_access
 
 unfoldable pub access_record : ℕ → Reader AccessRecord
 access_record spaces =
@@ -23,5 +23,5 @@ abbrev pub access_value : AccessRecord → Access
 access_value x = record { owner = x.owner; wanted = record { object = x.object; right = x.right }; path = path_value x.path; depth = record { 0 = x.depth } }
 
 abbrev pub access_read : Parsed AccessRecord → AccessRead
-access_read (got x at) = asAccess.Access (access_value x) at
-access_read (bad e) = asAccess.Fault e
+access_read (got x at) = as_access.Access (access_value x) at
+access_read (bad e) = as_access.Fault e

@@ -7,7 +7,7 @@ use Rattle.records.specs.Fields.{space_field, use_fields, depth_field}
 use Rattle.records.specs.Paths.{path_field, path_bytes, path_value}
 use Rattle.records.specs.declared.delegations.Delegation.{Delegation as DelegationValue}
 use Rattle.records.specs.declared.delegations.DelegationRead.{DelegationRead}
-use Rattle.records.specs.declared.delegations.DelegationRead.TheVariants as asDelegation
+use Rattle.records.specs.declared.delegations.DelegationRead.TheVariants as as_delegation
 
 unfoldable pub delegation_record : ℕ → Reader Delegation
 delegation_record spaces =
@@ -32,5 +32,5 @@ delegation_value x = record {
 }
 
 abbrev pub delegation_read : Parsed Delegation → DelegationRead
-delegation_read (got x at) = asDelegation.Delegation (delegation_value x) at
-delegation_read (bad e) = asDelegation.Fault e
+delegation_read (got x at) = as_delegation.Delegation (delegation_value x) at
+delegation_read (bad e) = as_delegation.Fault e

@@ -16,7 +16,7 @@ use Rattle.records.specs.Requests.{whole}
 use Rattle.records.specs.declared.faults.Kind.TheVariants as kind
 use Rattle.records.specs.declared.derivations.Parts.{Parts}
 use Rattle.records.specs.declared.derivations.DerivationRead.{DerivationRead}
-use Rattle.records.specs.declared.derivations.DerivationRead.TheVariants as asDerivation
+use Rattle.records.specs.declared.derivations.DerivationRead.TheVariants as as_derivation
 
 abbrev pub most_derivation : ℕ
 most_derivation = 512
@@ -68,5 +68,5 @@ abbrev pub parts_of : Laid → Parts
 parts_of l = record { bindings = length l.derivation.bindings; first = l.first; delegations = length l.derivation.delegations; chain = l.chain }
 
 abbrev pub derivation_read : Option Laid → DerivationRead
-derivation_read none = asDerivation.Not
-derivation_read (some l) = asDerivation.Derivation (parts_of l)
+derivation_read none = as_derivation.Not
+derivation_read (some l) = as_derivation.Derivation (parts_of l)

@@ -13,15 +13,15 @@ use Rattle.records.specs.declared.faults.Kind.{Kind}
 use Rattle.records.specs.declared.faults.Kind.TheVariants as kind
 use Rattle.records.specs.declared.faults.Fault.{Fault}
 use Rattle.records.specs.declared.fields.Field.{Field}
-use Rattle.records.specs.declared.fields.Field.TheVariants as asField
+use Rattle.records.specs.declared.fields.Field.TheVariants as as_field
 use Rattle.records.specs.declared.fields.SpaceRead.{SpaceRead}
-use Rattle.records.specs.declared.fields.SpaceRead.TheVariants as asSpace
+use Rattle.records.specs.declared.fields.SpaceRead.TheVariants as as_space
 use Rattle.records.specs.declared.fields.KeyRead.{KeyRead}
-use Rattle.records.specs.declared.fields.KeyRead.TheVariants as asKey
+use Rattle.records.specs.declared.fields.KeyRead.TheVariants as as_key
 use Rattle.records.specs.declared.fields.DepthRead.{DepthRead}
-use Rattle.records.specs.declared.fields.DepthRead.TheVariants as asDepth
+use Rattle.records.specs.declared.fields.DepthRead.TheVariants as as_depth
 use Rattle.records.specs.declared.fields.UseRead.{UseRead}
-use Rattle.records.specs.declared.fields.UseRead.TheVariants as asUse
+use Rattle.records.specs.declared.fields.UseRead.TheVariants as as_use
 
 -- A number is Cut if the bytes end before it is whole, else Number if it is not in shortest form or too large.
 unfoldable pub found_at : ℕ → Number → Parsed ℕ
@@ -59,42 +59,42 @@ use_fields = field 0 most_object ⊗ field 1 most_right
 
 -- ---- as code answers
 abbrev pub field_read : Parsed ℕ → Field
-field_read (got v at) = asField.Value v at
-field_read (bad e) = asField.Fault e
+field_read (got v at) = as_field.Value v at
+field_read (bad e) = as_field.Fault e
 
 abbrev pub space_read : Parsed Space → SpaceRead
-space_read (got S at) = asSpace.Space S at
-space_read (bad e) = asSpace.Fault e
+space_read (got S at) = as_space.Space S at
+space_read (bad e) = as_space.Fault e
 
 abbrev pub key_read : Parsed Key → KeyRead
-key_read (got k at) = asKey.Key k at
-key_read (bad e) = asKey.Fault e
+key_read (got k at) = as_key.Key k at
+key_read (bad e) = as_key.Fault e
 
 abbrev pub depth_read : Parsed ℕ → DepthRead
-depth_read (got d at) = asDepth.Depth (record { 0 = d }) at
-depth_read (bad e) = asDepth.Fault e
+depth_read (got d at) = as_depth.Depth (record { 0 = d }) at
+depth_read (bad e) = as_depth.Fault e
 
 abbrev pub use_read : Parsed (ℕ × ℕ) → UseRead
-use_read (got u at) = asUse.Use (record { object = u.0; right = u.1 }) at
-use_read (bad e) = asUse.Fault e
+use_read (got u at) = as_use.Use (record { object = u.0; right = u.1 }) at
+use_read (bad e) = as_use.Fault e
 
 -- The fault of an answer that is one.
 abbrev pub field_fault : Field → Fault
-field_fault (asField.Value v at) = fault_at kind.Range 0
-field_fault (asField.Fault e) = e
+field_fault (as_field.Value v at) = fault_at kind.Range 0
+field_fault (as_field.Fault e) = e
 
 abbrev pub space_fault : SpaceRead → Fault
-space_fault (asSpace.Space S at) = fault_at kind.Range 0
-space_fault (asSpace.Fault e) = e
+space_fault (as_space.Space S at) = fault_at kind.Range 0
+space_fault (as_space.Fault e) = e
 
 abbrev pub key_fault : KeyRead → Fault
-key_fault (asKey.Key k at) = fault_at kind.Range 0
-key_fault (asKey.Fault e) = e
+key_fault (as_key.Key k at) = fault_at kind.Range 0
+key_fault (as_key.Fault e) = e
 
 abbrev pub depth_fault : DepthRead → Fault
-depth_fault (asDepth.Depth d at) = fault_at kind.Range 0
-depth_fault (asDepth.Fault e) = e
+depth_fault (as_depth.Depth d at) = fault_at kind.Range 0
+depth_fault (as_depth.Fault e) = e
 
 abbrev pub use_fault : UseRead → Fault
-use_fault (asUse.Use u at) = fault_at kind.Range 0
-use_fault (asUse.Fault e) = e
+use_fault (as_use.Use u at) = fault_at kind.Range 0
+use_fault (as_use.Fault e) = e

@@ -6,10 +6,10 @@ use Rattle.records.specs.Parsed.{Parsed, got, bad, Reader, ◌⊗◌, mapped}
 use Rattle.records.specs.Fields.{key_field, use_fields, depth_field}
 use Rattle.records.specs.declared.keys.KeyAccess.{KeyAccess as KeyAccessValue}
 use Rattle.records.specs.declared.keys.KeyAccessRead.{KeyAccessRead}
-use Rattle.records.specs.declared.keys.KeyAccessRead.TheVariants as asAccess
+use Rattle.records.specs.declared.keys.KeyAccessRead.TheVariants as as_access
 use Rattle.records.specs.declared.keys.KeyDelegation.{KeyDelegation as KeyDelegationValue}
 use Rattle.records.specs.declared.keys.KeyDelegationRead.{KeyDelegationRead}
-use Rattle.records.specs.declared.keys.KeyDelegationRead.TheVariants as asDelegation
+use Rattle.records.specs.declared.keys.KeyDelegationRead.TheVariants as as_delegation
 
 unfoldable pub key_access_record : Reader KeyAccess
 key_access_record =
@@ -36,8 +36,8 @@ abbrev pub key_access_of : KeyAccessValue → KeyAccess
 key_access_of x = record { owner = x.owner; object = x.wanted.object; right = x.wanted.right; subject = x.subject; depth = x.depth.0 }
 
 abbrev pub key_access_read : Parsed KeyAccess → KeyAccessRead
-key_access_read (got x at) = asAccess.KeyAccess (key_access_value x) at
-key_access_read (bad e) = asAccess.Fault e
+key_access_read (got x at) = as_access.KeyAccess (key_access_value x) at
+key_access_read (bad e) = as_access.Fault e
 
 abbrev pub key_delegation_value : KeyDelegation → KeyDelegationValue
 key_delegation_value x = record {
@@ -52,5 +52,5 @@ abbrev pub key_delegation_of : KeyDelegationValue → KeyDelegation
 key_delegation_of x = record { writer = x.writer; owner = x.owner; object = x.wanted.object; right = x.wanted.right; delegatee = x.delegatee; depth = x.depth.0 }
 
 abbrev pub key_delegation_read : Parsed KeyDelegation → KeyDelegationRead
-key_delegation_read (got x at) = asDelegation.KeyDelegation (key_delegation_value x) at
-key_delegation_read (bad e) = asDelegation.Fault e
+key_delegation_read (got x at) = as_delegation.KeyDelegation (key_delegation_value x) at
+key_delegation_read (bad e) = as_delegation.Fault e

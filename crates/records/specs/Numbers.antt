@@ -2,8 +2,8 @@
 use Rattle.std.specs.Prelude.{List, ℕ}
 use Rattle.records.specs.Parsed.{Parsed, got, bad}
 use Rattle.records.specs.declared.derivations.Numbers.{Numbers}
-use Rattle.records.specs.declared.derivations.Numbers.TheVariants as asNumbers
+use Rattle.records.specs.declared.derivations.Numbers.TheVariants as as_numbers
 
 abbrev pub numbers_read : Parsed (List ℕ) → Numbers
-numbers_read (got l at) = asNumbers.After at
-numbers_read (bad e) = asNumbers.Not
+numbers_read (got l at) = as_numbers.After at
+numbers_read (bad e) = as_numbers.Not

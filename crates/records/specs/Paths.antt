@@ -9,7 +9,7 @@ use Rattle.records.specs.declared.faults.Kind.TheVariants as kind
 use Rattle.records.specs.declared.faults.Fault.{Fault}
 use Rattle.records.specs.declared.paths.Path.{Path as PathValue}
 use Rattle.records.specs.declared.paths.PathRead.{PathRead}
-use Rattle.records.specs.declared.paths.PathRead.TheVariants as asPath
+use Rattle.records.specs.declared.paths.PathRead.TheVariants as as_path
 
 unfoldable pub names_from : ℕ → Reader Path
 names_from zero s at = got [] at
@@ -34,9 +34,9 @@ abbrev pub path_of : PathValue → Path
 path_of p = take p.length (p.first ∷ p.second ∷ p.third ∷ p.fourth ∷ [])
 
 abbrev pub path_read : Parsed Path → PathRead
-path_read (got p at) = asPath.Path (path_value p) at
-path_read (bad e) = asPath.Fault e
+path_read (got p at) = as_path.Path (path_value p) at
+path_read (bad e) = as_path.Fault e
 
 abbrev pub path_fault : PathRead → Fault
-path_fault (asPath.Path p at) = fault_at kind.Range 0
-path_fault (asPath.Fault e) = e
+path_fault (as_path.Path p at) = fault_at kind.Range 0
+path_fault (as_path.Fault e) = e

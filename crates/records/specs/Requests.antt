@@ -10,10 +10,10 @@ use Rattle.records.specs.Fields.{space_field, key_field, use_fields}
 use Rattle.records.specs.Targets.{target_field, target_bytes, target_value}
 use Rattle.records.specs.declared.requests.Request.{Request as RequestValue}
 use Rattle.records.specs.declared.requests.RequestRead.{RequestRead}
-use Rattle.records.specs.declared.requests.RequestRead.TheVariants as asRequest
+use Rattle.records.specs.declared.requests.RequestRead.TheVariants as as_request
 use Rattle.records.specs.declared.requests.KeyRequest.{KeyRequest as KeyRequestValue}
 use Rattle.records.specs.declared.requests.KeyRequestRead.{KeyRequestRead}
-use Rattle.records.specs.declared.requests.KeyRequestRead.TheVariants as asKeyRequest
+use Rattle.records.specs.declared.requests.KeyRequestRead.TheVariants as as_key_request
 
 abbrev pub most_request : ℕ
 most_request = 64
@@ -53,12 +53,12 @@ abbrev pub request_value : Request → RequestValue
 request_value r = record { subject = target_value r.subject; owner = r.asked.owner; wanted = record { object = r.asked.object; right = r.asked.right } }
 
 abbrev pub request_read : Option Request → RequestRead
-request_read none = asRequest.Not
-request_read (some r) = asRequest.Request (request_value r)
+request_read none = as_request.Not
+request_read (some r) = as_request.Request (request_value r)
 
 abbrev pub key_request_value : KeyRequest → KeyRequestValue
 key_request_value r = record { subject = r.subject; owner = r.asked.owner; wanted = record { object = r.asked.object; right = r.asked.right } }
 
 abbrev pub key_request_read : Option KeyRequest → KeyRequestRead
-key_request_read none = asKeyRequest.Not
-key_request_read (some r) = asKeyRequest.KeyRequest (key_request_value r)
+key_request_read none = as_key_request.Not
+key_request_read (some r) = as_key_request.KeyRequest (key_request_value r)

@@ -9,9 +9,9 @@ use Rattle.records.specs.Paths.{path_field, path_bytes, path_value, path_of}
 use Rattle.records.specs.declared.faults.Kind.TheVariants as kind
 use Rattle.records.specs.declared.faults.Fault.{Fault}
 use Rattle.records.specs.declared.targets.Target.{Target as TargetValue}
-use Rattle.records.specs.declared.targets.Target.TheVariants as asTarget
+use Rattle.records.specs.declared.targets.Target.TheVariants as as_target
 use Rattle.records.specs.declared.targets.TargetRead.{TargetRead}
-use Rattle.records.specs.declared.targets.TargetRead.TheVariants as asRead
+use Rattle.records.specs.declared.targets.TargetRead.TheVariants as as_read
 
 unfoldable pub name_fields : ℕ → Reader Target
 name_fields spaces = mapped (λ w. to_name w.0 w.1) (space_field spaces ⊗ path_field)
@@ -26,17 +26,17 @@ target_bytes (to_name S p) = bytes_of 1 ++ (bytes_of S.0 ++ path_bytes p)
 
 -- ---- as code holds it
 abbrev pub target_value : Target → TargetValue
-target_value (to_key k) = asTarget.Key k
-target_value (to_name S p) = asTarget.Name S (path_value p)
+target_value (to_key k) = as_target.Key k
+target_value (to_name S p) = as_target.Name S (path_value p)
 
 abbrev pub target_of : TargetValue → Target
-target_of (asTarget.Key k) = to_key k
-target_of (asTarget.Name S p) = to_name S (path_of p)
+target_of (as_target.Key k) = to_key k
+target_of (as_target.Name S p) = to_name S (path_of p)
 
 abbrev pub target_read : Parsed Target → TargetRead
-target_read (got g at) = asRead.Target (target_value g) at
-target_read (bad e) = asRead.Fault e
+target_read (got g at) = as_read.Target (target_value g) at
+target_read (bad e) = as_read.Fault e
 
 abbrev pub target_fault : TargetRead → Fault
-target_fault (asRead.Target g at) = fault_at kind.Range 0
-target_fault (asRead.Fault e) = e
+target_fault (as_read.Target g at) = fault_at kind.Range 0
+target_fault (as_read.Fault e) = e

@@ -15,7 +15,7 @@ use Rattle.rules.proofs.RoundsLaws.{target_leads}
 use Rattle.records.specs.Paths.{path_of}
 use Rattle.records.specs.declared.paths.Path.{Path}
 use Rattle.records.specs.declared.targets.Target.{Target as TargetValue}
-use Rattle.records.specs.declared.targets.Target.TheVariants as asTarget
+use Rattle.records.specs.declared.targets.Target.TheVariants as as_target
 use Rattle.table.proofs.FindingLaws.{space_here}
 use Rattle.table.specs.Finding.{FindsSpace, has, nobody, FindsBinding, opens, keys_of, Below}
 use Rattle.table.specs.Finding.{nothing as unbound}
@@ -92,5 +92,5 @@ own_key t keys names index S h =
     let k : Key = record { 0 = get_or keys S.0 0 } in
     subst (λ (l : List Key). IsSelf l S k) index.spaces (space_has S (space_here keys k S.0 h refl) refl)
 
-pub name-requires : (spaces : ℕ) (g : TargetValue) (S : Space) (p : Path) → g ≡ asTarget.Name S p → FittingTarget spaces g → (S.0 < spaces) × Fitting p
+pub name-requires : (spaces : ℕ) (g : TargetValue) (S : Space) (p : Path) → g ≡ as_target.Name S p → FittingTarget spaces g → (S.0 < spaces) × Fitting p
 name-requires spaces g S p e f = subst (FittingTarget spaces) e f

@@ -17,7 +17,7 @@ use Rattle.records.specs.declared.faults.Fault.{Fault}
 use Rattle.records.specs.declared.targets.Target.{Target as TargetValue}
 use Rattle.records.specs.declared.bindings.Binding.{Binding as BindingValue}
 use Rattle.records.specs.declared.bindings.BindingRead.{BindingRead}
-use Rattle.records.specs.declared.bindings.BindingRead.TheVariants as asBinding
+use Rattle.records.specs.declared.bindings.BindingRead.TheVariants as as_binding
 use Rattle.records.proofs.RecordsForm.{binding_walks}
 use Rattle.table.specs.Kept.{unbound}
 use Rattle.table.proofs.LoadingLaws.{rest, there_back}
@@ -71,26 +71,26 @@ module _ (t : NameTable) (s keys names places : List ℕ) (known : Known t s key
   place_within = known.standing.within i (omega (arith, index_bindings t keys names known.index))
 
   module _ (r : BindingRead) (found : r ≡ binding_read (binding_record (length keys) (λ S b. is_among (take 0 names) (packed S b)) (rest s (get_or places i 0)) 0)) where
-    reads : (x : Binding) → At t.bindings i x → (n : ℕ) × (r ≡ asBinding.Binding (binding_value x) n)
+    reads : (x : Binding) → At t.bindings i x → (n : ℕ) × (r ≡ as_binding.Binding (binding_value x) n)
     unfolding is_among
     reads x a =
         let w = known.standing.stands i x a in
         let b = there_back (λ earlier. binding_record (length keys) unbound) (λ earlier. binding_walks (length keys) unbound) s [] (get_or places i 0) place_within x w.0 w.1 in
         (b.0, found ∙ ap binding_read b.1)
 
-    pub no_fault : (f : Fault) → r ≡ asBinding.Fault f → ⊥
+    pub no_fault : (f : Fault) → r ≡ as_binding.Fault f → ⊥
     no_fault f e =
         let x = at_below t.bindings i (omega (arith, index_bindings t keys names known.index)) in
         let w = reads x.0 x.1 in
-        let q : asBinding.Binding (binding_value x.0) w.0 ≡ asBinding.Fault f = sym w.1 ∙ e in
+        let q : as_binding.Binding (binding_value x.0) w.0 ≡ as_binding.Fault f = sym w.1 ∙ e in
         let z : ◌≡◌ {A = ℕ} 0 1 = cc in
         absurd (omega arith)
 
-    module _ (v : BindingValue) (n : ℕ) (e : r ≡ asBinding.Binding v n) where
+    module _ (v : BindingValue) (n : ℕ) (e : r ≡ as_binding.Binding v n) where
       is_value : (x : Binding) → At t.bindings i x → v.target ≡ target_value x.target
       is_value x a =
           let w = reads x a in
-          let q : asBinding.Binding (binding_value x) w.0 ≡ asBinding.Binding v n = sym w.1 ∙ e in
+          let q : as_binding.Binding (binding_value x) w.0 ≡ as_binding.Binding v n = sym w.1 ∙ e in
           let y : binding_value x ≡ v = cc q in
           sym (ap (λ (b : BindingValue). b.target) y)
 

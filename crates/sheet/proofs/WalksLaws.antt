@@ -17,14 +17,14 @@ use Rattle.records.specs.Paths.{path_of}
 use Rattle.records.specs.Targets.{target_of}
 use Rattle.records.specs.declared.paths.Path.{Path}
 use Rattle.records.specs.declared.targets.Target.{Target as TargetValue}
-use Rattle.records.specs.declared.targets.Target.TheVariants as asTarget
+use Rattle.records.specs.declared.targets.Target.TheVariants as as_target
 use Rattle.table.specs.Finding.{FindsSpace, keys_of, FindsNamed}
 use Rattle.table.specs.declared.finding.SpaceFound.{SpaceFound}
 use Rattle.table.specs.declared.finding.SpaceFound.TheVariants as space
 use Rattle.table.specs.declared.finding.BindingFound.{BindingFound}
 use Rattle.table.specs.declared.finding.BindingFound.TheVariants as binding
 use Rattle.sheet.specs.Finds.{Finds, Index, Fitting, rest_of}
-use Rattle.sheet.specs.Finds.{key as findsKey, nothing as findsNothing}
+use Rattle.sheet.specs.Finds.{key as finds_key, nothing as finds_nothing}
 use Rattle.sheet.specs.Walks.{Grown, Stopped, Nowhere, Walks, key, waits, nothing, for_now}
 use Rattle.sheet.specs.declared.following.Followed.{Followed}
 use Rattle.sheet.specs.declared.following.Walked.{Walked}
@@ -141,10 +141,10 @@ module _ (t : NameTable) (keys names sheet : List ℕ) (index : Index t keys nam
 
 -- ---- a whole target
 module _ (t : NameTable) (sheet : List ℕ) (g : TargetValue) where
-  pub target_key_lem : (k : Key) → g ≡ asTarget.Key k → Walks t sheet (target_of g) (walked.Key k)
+  pub target_key_lem : (k : Key) → g ≡ as_target.Key k → Walks t sheet (target_of g) (walked.Key k)
   target_key_lem k e = subst (λ (h : TargetValue). Walks t sheet (target_of h) (walked.Key k)) (sym e) (key k refl)
 
-  pub target_name : (S : Space) (p : Path) → g ≡ asTarget.Name S p → (r : Walked) → Walks t sheet (to_name S (path_of p)) r → Walks t sheet (target_of g) r
+  pub target_name : (S : Space) (p : Path) → g ≡ as_target.Name S p → (r : Walked) → Walks t sheet (to_name S (path_of p)) r → Walks t sheet (target_of g) r
   target_name S p e r w = subst (λ (h : TargetValue). Walks t sheet (target_of h) r) (sym e) w
 
 -- ---- what was found
@@ -169,6 +169,6 @@ pub found_now : (t : NameTable) (sheet : List ℕ) (g : Target) (w : Walked) (r 
 found_now t sheet g w r e v = subst (λ (a : Followed). Finds (TargetLeads t (InSheet t sheet) g) a) (sym e) (go w v)
   where
     go : (w : Walked) → Walks t sheet g w → Finds (TargetLeads t (InSheet t sheet) g) (for_now w)
-    go _ (key k l) = findsKey k l
-    go _ (waits j l z s) = findsNothing (λ k v. s.stopped sheet (grown_none sheet) z k v)
-    go _ (nothing s) = findsNothing (λ k v. s.nowhere sheet (grown_none sheet) k v)
+    go _ (key k l) = finds_key k l
+    go _ (waits j l z s) = finds_nothing (λ k v. s.stopped sheet (grown_none sheet) z k v)
+    go _ (nothing s) = finds_nothing (λ k v. s.nowhere sheet (grown_none sheet) k v)

@@ -20,11 +20,11 @@ use Rattle.records.specs.Passing.{PassesBinding}
 use Rattle.records.specs.Many.{many}
 use Rattle.records.specs.declared.faults.Kind.TheVariants as kind
 use Rattle.records.specs.declared.faults.Fault.{Fault}
-use Rattle.records.specs.declared.fields.Field.TheVariants as asField
-use Rattle.records.specs.declared.fields.SpaceRead.TheVariants as asSpace
+use Rattle.records.specs.declared.fields.Field.TheVariants as as_field
+use Rattle.records.specs.declared.fields.SpaceRead.TheVariants as as_space
 use Rattle.records.specs.declared.bindings.Binding.{Binding as BindingValue}
 use Rattle.records.specs.declared.bindings.BindingRead.{BindingRead}
-use Rattle.records.specs.declared.bindings.BindingRead.TheVariants as asBinding
+use Rattle.records.specs.declared.bindings.BindingRead.TheVariants as as_binding
 use Rattle.records.proofs.FormatLaws.{Walks}
 use Rattle.records.proofs.ParsedLaws.{then_got, got_then}
 use Rattle.records.proofs.FieldsLaws.{field_within}
@@ -34,7 +34,7 @@ use Rattle.records.proofs.RecordsForm.{binding_walks}
 use Rattle.table.specs.Sections.{after_read, bound_read}
 use Rattle.table.specs.declared.loading.After.TheVariants as after
 use Rattle.table.specs.declared.loading.Bound.{Bound}
-use Rattle.table.specs.declared.loading.Bound.TheVariants as asBound
+use Rattle.table.specs.declared.loading.Bound.TheVariants as the_bound
 use Rattle.table.proofs.AnswersLaws.{binding_got, binding_bad, bound_got, bound_bad}
 use Rattle.table.proofs.LoadingLaws.{Besides, rest, there_got, there_bad, Reading, reading_start, reading_next, reading_stop, reading_end}
 use Rattle.table.specs.Kept.{Kept, Standing, name_of, unbound}
@@ -54,7 +54,7 @@ same_bound spaces f g s at h = first (space_field spaces s at)
     second : (S : Space) (mid : ℕ) (p : Parsed ℕ) → field 1 most_base s mid ≡ p → (p ⟫ on_target spaces f s S mid) ≡ (p ⟫ on_target spaces g s S mid)
     second S mid (got b n) e =
         ap (λ (c : Bool). pick c (bad (fault_at kind.Twice mid)) (target_field spaces s n ⟫ λ target at. got (record { space = S; base = b; target = target }) at))
-        (h S b (field_within s mid 1 most_base (asField.Value b n) b n (ap field_read (sym e)) refl).1)
+        (h S b (field_within s mid 1 most_base (as_field.Value b n) b n (ap field_read (sym e)) refl).1)
     second S mid (bad d) e = refl
 
     first : (p : Parsed Space) → (p ⟫ λ S mid. field 1 most_base s mid ⟫ on_target spaces f s S mid) ≡ (p ⟫ λ S mid. field 1 most_base s mid ⟫ on_target spaces g s S mid)
@@ -104,8 +104,8 @@ module _ (spaces : ℕ) (bound : Space → ℕ → Bool) (s : List ℕ) (at : �
   pub binding_within : (x : Binding) (n : ℕ) → binding_record spaces bound s at ≡ got x n → (x.space.0 < spaces) × (x.base ≤ most_base)
   binding_within x n e =
       let p = parts_of x n e in (
-        space_below spaces s at (asSpace.Space x.space p.mid) x.space p.mid (ap space_read (sym p.space)) refl,
-        (field_within s p.mid 1 most_base (asField.Value x.base p.end) x.base p.end (ap field_read (sym p.base)) refl).1,
+        space_below spaces s at (as_space.Space x.space p.mid) x.space p.mid (ap space_read (sym p.space)) refl,
+        (field_within s p.mid 1 most_base (as_field.Value x.base p.end) x.base p.end (ap field_read (sym p.base)) refl).1,
       )
 
 -- A binding that was found is found as well where other names are bound, if its own is not.
@@ -139,12 +139,12 @@ module _ (spaces : ℕ) (earlier : List ℕ) (s : List ℕ) (at : ℕ) (h : at �
     pub passed_within : at + g.next ≤ length s
     passed_within = (there (p.good q).0 g.next passed).1
 
-    pub passed_name : asBound.Name g.value (at + g.next) ≡ bound_read (binding_behind s at)
-    passed_name = ap (λ (v : ℕ). asBound.Name v (at + g.next)) (p.good q).2 ∙ ap bound_read (sym (there (p.good q).0 g.next passed).0)
+    pub passed_name : the_bound.Name g.value (at + g.next) ≡ bound_read (binding_behind s at)
+    passed_name = ap (λ (v : ℕ). the_bound.Name v (at + g.next)) (p.good q).2 ∙ ap bound_read (sym (there (p.good q).0 g.next passed).0)
 
   -- One that is read.
   module _ (a : BindingRead) (found : a ≡ binding_read (binding_behind (rest s at) 0)) where
-    module _ (v : BindingValue) (n : ℕ) (q : a ≡ asBinding.Binding v n) where
+    module _ (v : BindingValue) (n : ℕ) (q : a ≡ as_binding.Binding v n) where
       one : (x : Binding) × (binding_behind (rest s at) 0 ≡ got x n) × (v ≡ binding_value x)
       one = binding_got (binding_behind (rest s at) 0) a v n found q
 
@@ -154,11 +154,11 @@ module _ (spaces : ℕ) (earlier : List ℕ) (s : List ℕ) (at : ℕ) (h : at �
           let b = binding_within spaces (λ S b. is_among earlier (packed S b)) (rest s at) 0 w.0 n w.1 in
           subst (λ (y : BindingValue). (y.space.0 < spaces) × (y.base < 65536) × (at + n ≤ length s)) (sym w.2) (b.0, omega (arith, b.1), (there w.0 n w.1).1)
 
-      pub read_name : (p : ℕ) → p ≡ packed v.space v.base → asBound.Name p (at + n) ≡ bound_read (binding_behind s at)
+      pub read_name : (p : ℕ) → p ≡ packed v.space v.base → the_bound.Name p (at + n) ≡ bound_read (binding_behind s at)
       read_name p e =
-          ap (λ (k : ℕ). asBound.Name k (at + n)) (e ∙ ap (λ (y : BindingValue). packed y.space y.base) one.2) ∙ ap bound_read (sym (there one.0 n one.1).0)
+          ap (λ (k : ℕ). the_bound.Name k (at + n)) (e ∙ ap (λ (y : BindingValue). packed y.space y.base) one.2) ∙ ap bound_read (sym (there one.0 n one.1).0)
 
-    module _ (e : Fault) (q : a ≡ asBinding.Fault e) where
+    module _ (e : Fault) (q : a ≡ as_binding.Fault e) where
       wrong : (binding_behind s at ≡ bad (moved_fault at e)) × (at + e.place.offset ≤ length s)
       wrong =
           there_bad (λ (e : List Binding). binding_behind) (λ e. binding_walks spaces (λ S b. is_among earlier (packed S b))) s [] at h e (binding_bad (binding_behind (rest s at) 0) a e found q)
@@ -166,8 +166,8 @@ module _ (spaces : ℕ) (earlier : List ℕ) (s : List ℕ) (at : ℕ) (h : at �
       pub wrong_within : at + e.place.offset ≤ length s
       wrong_within = wrong.1
 
-      pub wrong_name : (g : Fault) → g ≡ moved_fault at e → asBound.Fault g ≡ bound_read (binding_behind s at)
-      wrong_name g m = ap asBound.Fault m ∙ ap bound_read (sym wrong.0)
+      pub wrong_name : (g : Fault) → g ≡ moved_fault at e → the_bound.Fault g ≡ bound_read (binding_behind s at)
+      wrong_name g m = ap the_bound.Fault m ∙ ap bound_read (sym wrong.0)
 
 -- ---- the loop
 module _ (spaces : ℕ) where
@@ -219,11 +219,11 @@ module _ (spaces : ℕ) (walks : (earlier : List Binding) → Walks (binding_nex
         as_bound = found ∙ ap bound_read (same_bound spaces (λ S b. is_among (take i names) (packed S b)) (is_bound r.earlier) s at among)
 
         -- A fault ends the loop.
-        pub binds_bad : (e : Fault) → a ≡ asBound.Fault e → Besides after_read BindingsKept (after.Fault e) (many (binding_next spaces) count [] s from)
+        pub binds_bad : (e : Fault) → a ≡ the_bound.Fault e → Besides after_read BindingsKept (after.Fault e) (many (binding_next spaces) count [] s from)
         binds_bad e q = reading_stop (binding_next spaces) walks s count from at i r.earlier r.reading h BindingsKept e (bound_bad (binding_next spaces r.earlier s at) a e as_bound q)
 
         -- With one binding more, its name kept and marked, and its place kept.
-        pub binds_on : (p next : ℕ) (later : List ℕ) → a ≡ asBound.Name p next → later ≡ set marks (mark_of p) 1
+        pub binds_on : (p next : ℕ) (later : List ℕ) → a ≡ the_bound.Name p next → later ≡ set marks (mark_of p) 1
             → Binds count from room much wide (set names i p) (set places i at) later next (i + 1)
         binds_on p next later q m = more (bound_got (binding_next spaces r.earlier s at) a p next as_bound q)
           where

@@ -17,14 +17,14 @@ use Rattle.table.specs.Kept.{IfGood}
 use Rattle.table.specs.declared.loading.After.TheVariants as after
 
 -- ---- an answer, and what holds besides if all is well
-module _ {A R : Type 0} (asAnswer : Parsed A → R) (K : A → Type 0) (r : R) (p : Parsed A) where
+module _ {A R : Type 0} (as_answer : Parsed A → R) (K : A → Type 0) (r : R) (p : Parsed A) where
   abbrev pub Besides : Type 0
-  Besides = (r ≡ asAnswer p) × IfGood p K
+  Besides = (r ≡ as_answer p) × IfGood p K
 
-  pub ill : ((x : A) (at : ℕ) → r ≡ asAnswer (got x at) → ⊥) → r ≡ asAnswer p → Besides
-  ill apart e = (e, λ x at q. absurd (apart x at (e ∙ ap asAnswer q)))
+  pub ill : ((x : A) (at : ℕ) → r ≡ as_answer (got x at) → ⊥) → r ≡ as_answer p → Besides
+  ill apart e = (e, λ x at q. absurd (apart x at (e ∙ ap as_answer q)))
 
-  pub well : (x : A) (at : ℕ) → p ≡ got x at → K x → r ≡ asAnswer p → Besides
+  pub well : (x : A) (at : ℕ) → p ≡ got x at → K x → r ≡ as_answer p → Besides
   well x at g k e = (e, λ y n q. let h : ◌≡◌ {A = Parsed A} (got x at) (got y n) = sym g ∙ q in let i : x ≡ y = cc h in subst K i k)
 
 pub after_apart : {A : Type 0} (f : Fault) (l : List A) (at : ℕ) → after.Fault f ≡ after_read (got l at) → ⊥

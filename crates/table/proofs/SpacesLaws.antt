@@ -15,7 +15,7 @@ use Rattle.records.specs.Many.{many}
 use Rattle.records.specs.declared.faults.Kind.TheVariants as kind
 use Rattle.records.specs.declared.faults.Fault.{Fault}
 use Rattle.records.specs.declared.fields.KeyRead.{KeyRead}
-use Rattle.records.specs.declared.fields.KeyRead.TheVariants as asKey
+use Rattle.records.specs.declared.fields.KeyRead.TheVariants as as_key
 use Rattle.records.proofs.ParsedLaws.{got_then, bad_first}
 use Rattle.records.proofs.FormatLaws.{Walks, refused_walks}
 use Rattle.records.proofs.FieldsForm.{key_walks}
@@ -63,10 +63,10 @@ module _ (s : List ℕ) where
         well after_read (λ (e : List Key). Kept number_of keys e) (after.At at) (many space_key count [] s from) l.earlier at e l.kept (ap after_read (sym e))
 
     module _ (few : count ≤ room) (h : i < count) (r : KeyRead) (found : r ≡ key_read (key_field s at)) where
-      pub spaced_fails : (g f : Fault) → r ≡ asKey.Fault g → f ≡ key_fault r → Spaces (after.Fault f)
+      pub spaced_fails : (g f : Fault) → r ≡ as_key.Fault g → f ≡ key_fault r → Spaces (after.Fault f)
       spaced_fails g f e q = failed f (going_bad space_key s count from i at l.earlier l.going h f (bad_first (key_field s at) _ (key_told (key_field s at) r g f found e q)))
 
-      module _ (k : Key) (next : ℕ) (e : r ≡ asKey.Key k next) where
+      module _ (k : Key) (next : ℕ) (e : r ≡ as_key.Key k next) where
         -- The next key, as it is read, given whether an earlier space has it.
         key_next : (b : Bool) → b ≡ is_among (take i keys) k.0 → space_key l.earlier s at ≡ pick b (bad (fault_at kind.Twice at)) (got k next)
         key_next b q =

@@ -34,9 +34,9 @@ abbrev pub unbound : Space → ℕ → Bool
 unbound S b = false
 
 -- What is kept of a whole table: the keys of the spaces, the names that the bindings bind, packed, and where the records stand.
-pub record Indexed (s : List ℕ) (l : Laid) (keys packedNames bindingPlaces accessPlaces delegationPlaces : List ℕ) : Type 0 where
+pub record Indexed (s : List ℕ) (l : Laid) (keys packed_names binding_places access_places delegation_places : List ℕ) : Type 0 where
   pub spaces : Kept number_of keys l.spaces.records
-  pub names : Kept name_of packedNames l.bindings.records
-  pub bindings : Standing (binding_record (length l.spaces.records) unbound) s bindingPlaces l.bindings.records
-  pub accesses : Standing (access_record (length l.spaces.records)) s accessPlaces l.accesses.records
-  pub delegations : Standing (delegation_record (length l.spaces.records)) s delegationPlaces l.delegations.records
+  pub names : Kept name_of packed_names l.bindings.records
+  pub bindings : Standing (binding_record (length l.spaces.records) unbound) s binding_places l.bindings.records
+  pub accesses : Standing (access_record (length l.spaces.records)) s access_places l.accesses.records
+  pub delegations : Standing (delegation_record (length l.spaces.records)) s delegation_places l.delegations.records

@@ -23,10 +23,10 @@ use Rattle.records.specs.declared.faults.Fault.{Fault}
 use Rattle.records.specs.declared.paths.Path.{Path as PathValue}
 use Rattle.records.specs.declared.accesses.Access.{Access}
 use Rattle.records.specs.declared.accesses.AccessRead.{AccessRead}
-use Rattle.records.specs.declared.accesses.AccessRead.TheVariants as asAccess
+use Rattle.records.specs.declared.accesses.AccessRead.TheVariants as as_access
 use Rattle.records.specs.declared.delegations.Delegation.{Delegation as DelegationValue}
 use Rattle.records.specs.declared.delegations.DelegationRead.{DelegationRead}
-use Rattle.records.specs.declared.delegations.DelegationRead.TheVariants as asDelegation
+use Rattle.records.specs.declared.delegations.DelegationRead.TheVariants as as_delegation
 use Rattle.records.proofs.FormatLaws.{Walks}
 use Rattle.records.proofs.RecordsForm.{access_walks, delegation_walks}
 use Rattle.table.specs.ReadTable.{table_at}
@@ -40,15 +40,15 @@ use Rattle.sheet.proofs.FindsLaws.{own_key, finds_key, finds_none}
 use Rattle.sheet.proofs.MeaningLaws.{path_back, index_spaces}
 use Rattle.matching.proofs.MatchingLaws.{stands_back}
 use Rattle.translation.specs.Becoming.{AccessBecomes, DelegationBecomes, Keyed, becomes, Ready}
-use Rattle.translation.specs.Becoming.{nothing as becomesNothing}
+use Rattle.translation.specs.Becoming.{nothing as becomes_nothing}
 
 -- ---- a record by its number
-again : {A R : Type 0} (P : Reader A) → Walks P → (asRead : Parsed A → R) (s places : List ℕ) (l : List A) → Standing P s places l → (i : ℕ) → i < length l
-    → (r : R) → r ≡ asRead (P (rest s (get_or places i 0)) 0) → (x : A) × At l i x × (n : ℕ) × (r ≡ asRead (got x n))
-again P walks asRead s places l w i h r found =
+again : {A R : Type 0} (P : Reader A) → Walks P → (as_read : Parsed A → R) (s places : List ℕ) (l : List A) → Standing P s places l → (i : ℕ) → i < length l
+    → (r : R) → r ≡ as_read (P (rest s (get_or places i 0)) 0) → (x : A) × At l i x × (n : ℕ) × (r ≡ as_read (got x n))
+again P walks as_read s places l w i h r found =
     let x = at_below l i h in
     let b = stands_back P walks s places l w i x.0 x.1 in
-    (x.0, x.1, b.0, found ∙ ap asRead b.1)
+    (x.0, x.1, b.0, found ∙ ap as_read b.1)
 
 -- ---- what an exact sheet tells
 finds_as : {P Q : Key → Type 0} {r : Followed} → ((k : Key) → P k ↔ Q k) → Finds P r → Finds Q r
@@ -73,15 +73,15 @@ module _ (s keys names accesses delegations sheet : List ℕ) (ready : Ready s k
 
   -- ---- access records
   module _ (i : ℕ) (h : i < length (table_at s).accesses) (r : AccessRead) (found : r ≡ access_read (access_record (length keys) (rest s (get_or accesses i 0)) 0)) where
-    listed : (x : AccessRecord) × At (table_at s).accesses i x × (n : ℕ) × (r ≡ asAccess.Access (access_value x) n)
+    listed : (x : AccessRecord) × At (table_at s).accesses i x × (n : ℕ) × (r ≡ as_access.Access (access_value x) n)
     listed = again (access_record (length keys)) (access_walks (length keys)) access_read s accesses (table_at s).accesses ready.held.accesses i h r found
 
-    pub access_sound : (f : Fault) → r ≡ asAccess.Fault f → Keyed (AccessBecomes s i) none
-    access_sound f e = let z : asAccess.Access (access_value listed.0) listed.2 ≡ asAccess.Fault f = sym listed.3 ∙ e in let y : ◌≡◌ {A = ℕ} 0 1 = cc z in absurd (omega arith)
+    pub access_sound : (f : Fault) → r ≡ as_access.Fault f → Keyed (AccessBecomes s i) none
+    access_sound f e = let z : as_access.Access (access_value listed.0) listed.2 ≡ as_access.Fault f = sym listed.3 ∙ e in let y : ◌≡◌ {A = ℕ} 0 1 = cc z in absurd (omega arith)
 
-    module _ (v : Access) (n : ℕ) (e : r ≡ asAccess.Access v n) (a : Followed) (end : Finds (Leads v.owner (path_of v.path)) a) where
+    module _ (v : Access) (n : ℕ) (e : r ≡ as_access.Access v n) (a : Followed) (end : Finds (Leads v.owner (path_of v.path)) a) where
       is : v ≡ access_value listed.0
-      is = let z : asAccess.Access (access_value listed.0) listed.2 ≡ asAccess.Access v n = sym listed.3 ∙ e in let y : access_value listed.0 ≡ v = cc z in sym y
+      is = let z : as_access.Access (access_value listed.0) listed.2 ≡ as_access.Access v n = sym listed.3 ∙ e in let y : access_value listed.0 ≡ v = cc z in sym y
 
       subject_meant : Finds (Means (table_at s).names listed.0.owner listed.0.path) a
       subject_meant =
@@ -89,7 +89,7 @@ module _ (s keys names accesses delegations sheet : List ℕ) (ready : Ready s k
           (ap (λ (u : Access). u.path) is) end
 
       pub access_omitted : a ≡ followed.Nothing → Keyed (AccessBecomes s i) none
-      access_omitted g = becomesNothing (λ y w.
+      access_omitted g = becomes_nothing (λ y w.
           finds_none subject_meant g y.subject (subst (λ (u : AccessRecord). Means (table_at s).names u.owner u.path y.subject) (at_one w.at listed.1) w.keys.subject))
 
       pub access_becomes : (k : Key) → a ≡ followed.Key k
@@ -108,17 +108,17 @@ module _ (s keys names accesses delegations sheet : List ℕ) (ready : Ready s k
 
   -- ---- delegations
   module _ (i : ℕ) (h : i < length (table_at s).delegations) (r : DelegationRead) (found : r ≡ delegation_read (delegation_record (length keys) (rest s (get_or delegations i 0)) 0)) where
-    written : (x : Delegation) × At (table_at s).delegations i x × (n : ℕ) × (r ≡ asDelegation.Delegation (delegation_value x) n)
+    written : (x : Delegation) × At (table_at s).delegations i x × (n : ℕ) × (r ≡ as_delegation.Delegation (delegation_value x) n)
     written = again (delegation_record (length keys)) (delegation_walks (length keys)) delegation_read s delegations (table_at s).delegations ready.held.delegations i h r found
 
-    pub delegation_sound : (f : Fault) → r ≡ asDelegation.Fault f → Keyed (DelegationBecomes s i) none
+    pub delegation_sound : (f : Fault) → r ≡ as_delegation.Fault f → Keyed (DelegationBecomes s i) none
     delegation_sound f e =
-        let z : asDelegation.Delegation (delegation_value written.0) written.2 ≡ asDelegation.Fault f = sym written.3 ∙ e in let y : ◌≡◌ {A = ℕ} 0 1 = cc z in absurd (omega arith)
+        let z : as_delegation.Delegation (delegation_value written.0) written.2 ≡ as_delegation.Fault f = sym written.3 ∙ e in let y : ◌≡◌ {A = ℕ} 0 1 = cc z in absurd (omega arith)
 
-    module _ (v : DelegationValue) (n : ℕ) (e : r ≡ asDelegation.Delegation v n) (a : Followed) (named : Finds (Leads v.writer (path_of v.owner)) a) where
+    module _ (v : DelegationValue) (n : ℕ) (e : r ≡ as_delegation.Delegation v n) (a : Followed) (named : Finds (Leads v.writer (path_of v.owner)) a) where
       its : v ≡ delegation_value written.0
       its =
-          let z : asDelegation.Delegation (delegation_value written.0) written.2 ≡ asDelegation.Delegation v n = sym written.3 ∙ e in
+          let z : as_delegation.Delegation (delegation_value written.0) written.2 ≡ as_delegation.Delegation v n = sym written.3 ∙ e in
           let y : delegation_value written.0 ≡ v = cc z in
           sym y
 
@@ -128,7 +128,7 @@ module _ (s keys names accesses delegations sheet : List ℕ) (ready : Ready s k
           (ap (λ (u : DelegationValue). u.writer) its) (ap (λ (u : DelegationValue). u.owner) its) named
 
       pub owner_omitted : a ≡ followed.Nothing → Keyed (DelegationBecomes s i) none
-      owner_omitted g = becomesNothing (λ y w.
+      owner_omitted g = becomes_nothing (λ y w.
           finds_none owner_meant g y.owner (subst (λ (u : Delegation). Means (table_at s).names u.writer u.owner_path y.owner) (at_one w.at written.1) w.keys.owner))
 
       module _ (b : Followed) (end : Finds (Leads v.writer (path_of v.delegatee)) b) where
@@ -138,7 +138,7 @@ module _ (s keys names accesses delegations sheet : List ℕ) (ready : Ready s k
             (ap (λ (u : DelegationValue). u.writer) its) (ap (λ (u : DelegationValue). u.delegatee) its) end
 
         pub delegatee_omitted : b ≡ followed.Nothing → Keyed (DelegationBecomes s i) none
-        delegatee_omitted g = becomesNothing (λ y w.
+        delegatee_omitted g = becomes_nothing (λ y w.
             finds_none delegatee_meant g y.delegatee
             (subst (λ (u : Delegation). Means (table_at s).names u.writer u.delegatee_path y.delegatee) (at_one w.at written.1) w.keys.delegatee))
 

@@ -12,10 +12,10 @@ use Rattle.records.specs.KeyRecords.{key_access_of, key_delegation_of}
 use Rattle.table.specs.ReadTable.{table_at}
 use Rattle.matching.specs.Matching.{Held}
 use Rattle.translation.specs.declared.accesses.AccessKeys.{AccessKeys}
-use Rattle.translation.specs.declared.accesses.AccessKeys.TheVariants as asAccess
+use Rattle.translation.specs.declared.accesses.AccessKeys.TheVariants as as_access
 use Rattle.translation.specs.declared.sections.Written.{Written}
 use Rattle.translation.specs.declared.delegations.DelegationKeys.{DelegationKeys}
-use Rattle.translation.specs.declared.delegations.DelegationKeys.TheVariants as asDelegation
+use Rattle.translation.specs.declared.delegations.DelegationKeys.TheVariants as as_delegation
 
 -- Record number `i` of the list becomes `y`.
 pub record Becomes {A B : Type 0} (ToKeys : A → B → Type 0) (l : List A) (i : ℕ) (y : B) : Type 0 where
@@ -46,12 +46,12 @@ pub record RoomFor {B : Type 0} (P : B → Type 0) (E : B → List ℕ) (out : L
 
 -- ---- as code answers
 abbrev pub access_told : AccessKeys → Option KeyAccess
-access_told (asAccess.Keys v) = some (key_access_of v)
-access_told asAccess.Omitted = none
+access_told (as_access.Keys v) = some (key_access_of v)
+access_told as_access.Omitted = none
 
 abbrev pub delegation_told : DelegationKeys → Option KeyDelegation
-delegation_told (asDelegation.Keys v) = some (key_delegation_of v)
-delegation_told asDelegation.Omitted = none
+delegation_told (as_delegation.Keys v) = some (key_delegation_of v)
+delegation_told as_delegation.Omitted = none
 
 -- A table that was found good, with its index and an exact sheet.
 pub record Ready (s keys names accesses delegations sheet : List ℕ) : Type 0 where

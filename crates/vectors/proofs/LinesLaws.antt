@@ -14,14 +14,14 @@ use Rattle.records.specs.Parsed.{Parsed, got, bad}
 use Rattle.records.specs.Requests.{read_request, request_read, key_request_read}
 use Rattle.records.specs.declared.derivations.Parts.{Parts}
 use Rattle.records.specs.declared.derivations.DerivationRead.{DerivationRead}
-use Rattle.records.specs.declared.derivations.DerivationRead.TheVariants as asDerivation
+use Rattle.records.specs.declared.derivations.DerivationRead.TheVariants as as_derivation
 use Rattle.records.specs.declared.faults.Fault.{Fault}
 use Rattle.records.specs.declared.requests.Request.{Request as RequestValue}
 use Rattle.records.specs.declared.requests.RequestRead.{RequestRead}
-use Rattle.records.specs.declared.requests.RequestRead.TheVariants as asRequest
+use Rattle.records.specs.declared.requests.RequestRead.TheVariants as as_request
 use Rattle.records.specs.declared.requests.KeyRequest.{KeyRequest as KeyRequestValue}
 use Rattle.records.specs.declared.requests.KeyRequestRead.{KeyRequestRead}
-use Rattle.records.specs.declared.requests.KeyRequestRead.TheVariants as asKeyRequest
+use Rattle.records.specs.declared.requests.KeyRequestRead.TheVariants as as_key_request
 use Rattle.records.proofs.DerivationForm.{derivation_form}
 use Rattle.table.specs.ReadKeyTable.{KeyLaid}
 use Rattle.table.specs.ReadTable as table
@@ -33,8 +33,8 @@ use Rattle.matching.proofs.HeldLaws.{read_good, read_bad}
 use Rattle.keytable.specs.Loading.{key_loaded_of, key_sections_of}
 use Rattle.keytable.specs.declared.KeySections.{KeySections}
 use Rattle.keytable.specs.declared.KeyLoaded.{KeyLoaded}
-use Rattle.keytable.specs.declared.KeyLoaded.TheVariants as keyLoaded
-use Rattle.kernel.specs.Answers.{done, wrong_request, notADerivation}
+use Rattle.keytable.specs.declared.KeyLoaded.TheVariants as key_loaded
+use Rattle.kernel.specs.Answers.{done, wrong_request, not_a_derivation}
 use Rattle.vectors.specs.Lines.{fault_line, table_line, key_table_line, whole_line, request_line, key_request_line, derivation_line}
 use Rattle.vectors.specs.declared.lines.Line.{Line}
 use Rattle.vectors.specs.declared.lines.Line.TheVariants.{One, Three, Five}
@@ -55,12 +55,12 @@ table_bad p r f line e h q = q ∙ ap table_line (sym (read_bad p r f e h))
 abbrev pub key_counts_line : KeySections → Line
 key_counts_line s = Three done s.accesses.count s.delegations.count
 
-pub key_table_good : (p : Parsed KeyLaid) (r : KeyLoaded) (s : KeySections) → r ≡ key_loaded_of p → r ≡ keyLoaded.Good s → key_counts_line s ≡ key_table_line p
+pub key_table_good : (p : Parsed KeyLaid) (r : KeyLoaded) (s : KeySections) → r ≡ key_loaded_of p → r ≡ key_loaded.Good s → key_counts_line s ≡ key_table_line p
 unfolding key_table_line
 key_table_good (got l at) r s e h = let x : key_sections_of l ≡ s = cc in ap key_counts_line (sym x)
 key_table_good (bad g) r s e h = let z : ◌≡◌ {A = ℕ} 0 1 = cc in absurd (omega arith)
 
-pub key_table_bad : (p : Parsed KeyLaid) (r : KeyLoaded) (f : Fault) (line : Line) → r ≡ key_loaded_of p → r ≡ keyLoaded.Bad f → line ≡ fault_line f → line ≡ key_table_line p
+pub key_table_bad : (p : Parsed KeyLaid) (r : KeyLoaded) (f : Fault) (line : Line) → r ≡ key_loaded_of p → r ≡ key_loaded.Bad f → line ≡ fault_line f → line ≡ key_table_line p
 unfolding key_table_line
 key_table_bad (got l at) r f line e h q = let z : ◌≡◌ {A = ℕ} 0 1 = cc in absurd (omega arith)
 key_table_bad (bad g) r f line e h q = let x : f ≡ g = cc in q ∙ ap fault_line x
@@ -76,29 +76,29 @@ pub request_bad : (p : Parsed table.Laid) (r : Loaded) (f : Fault) (b : List ℕ
 unfolding request_line
 request_bad p r f b line e h q = q ∙ ap (λ (p : Parsed table.Laid). request_line p b) (sym (read_bad p r f e h))
 
-pub request_some : (p : Option Request) (r : RequestRead) (v : RequestValue) → r ≡ request_read p → r ≡ asRequest.Request v → One done ≡ whole_line wrong_request p
+pub request_some : (p : Option Request) (r : RequestRead) (v : RequestValue) → r ≡ request_read p → r ≡ as_request.Request v → One done ≡ whole_line wrong_request p
 unfolding whole_line
 request_some (some x) r v e h = refl
 request_some none r v e h = let z : ◌≡◌ {A = ℕ} 0 1 = cc in absurd (omega arith)
 
-pub request_none : (p : Option Request) (r : RequestRead) → r ≡ request_read p → r ≡ asRequest.Not → One wrong_request ≡ whole_line wrong_request p
+pub request_none : (p : Option Request) (r : RequestRead) → r ≡ request_read p → r ≡ as_request.Not → One wrong_request ≡ whole_line wrong_request p
 unfolding whole_line
 request_none (some x) r e h = let z : ◌≡◌ {A = ℕ} 0 1 = cc in absurd (omega arith)
 request_none none r e h = refl
 
 -- ---- key requests
-pub key_request_some : (p : Option KeyRequest) (r : KeyRequestRead) (v : KeyRequestValue) → r ≡ key_request_read p → r ≡ asKeyRequest.KeyRequest v → One done ≡ key_request_line p
+pub key_request_some : (p : Option KeyRequest) (r : KeyRequestRead) (v : KeyRequestValue) → r ≡ key_request_read p → r ≡ as_key_request.KeyRequest v → One done ≡ key_request_line p
 unfolding whole_line
 key_request_some (some x) r v e h = refl
 key_request_some none r v e h = let z : ◌≡◌ {A = ℕ} 0 1 = cc in absurd (omega arith)
 
-pub key_request_none : (p : Option KeyRequest) (r : KeyRequestRead) → r ≡ key_request_read p → r ≡ asKeyRequest.Not → One wrong_request ≡ key_request_line p
+pub key_request_none : (p : Option KeyRequest) (r : KeyRequestRead) → r ≡ key_request_read p → r ≡ as_key_request.Not → One wrong_request ≡ key_request_line p
 unfolding whole_line
 key_request_none (some x) r e h = let z : ◌≡◌ {A = ℕ} 0 1 = cc in absurd (omega arith)
 key_request_none none r e h = refl
 
 -- ---- derivations
-pub derivation_some : (p : Option derivation.Laid) (r : DerivationRead) (v : Parts) → r ≡ derivation_read p → r ≡ asDerivation.Derivation v → Three done v.bindings (v.delegations + 1) ≡ derivation_line p
+pub derivation_some : (p : Option derivation.Laid) (r : DerivationRead) (v : Parts) → r ≡ derivation_read p → r ≡ as_derivation.Derivation v → Three done v.bindings (v.delegations + 1) ≡ derivation_line p
 unfolding derivation_line
 derivation_some (some l) r v e h =
     let x : parts_of l ≡ v = cc in
@@ -107,13 +107,13 @@ derivation_some (some l) r v e h =
     ap (λ (v : Parts). Three done v.bindings (v.delegations + 1)) (sym x) ∙ ap (λ (n : ℕ). Three done (length l.derivation.bindings) n) y
 derivation_some none r v e h = let z : ◌≡◌ {A = ℕ} 0 1 = cc in absurd (omega arith)
 
-pub derivation_none : (p : Option derivation.Laid) (r : DerivationRead) → r ≡ derivation_read p → r ≡ asDerivation.Not → One notADerivation ≡ derivation_line p
+pub derivation_none : (p : Option derivation.Laid) (r : DerivationRead) → r ≡ derivation_read p → r ≡ as_derivation.Not → One not_a_derivation ≡ derivation_line p
 unfolding derivation_line
 derivation_none (some l) r e h = let z : ◌≡◌ {A = ℕ} 0 1 = cc in absurd (omega arith)
 derivation_none none r e h = refl
 
 -- A chain has at most 15 delegations.
-pub chain_short : (s : List ℕ) (r : DerivationRead) (v : Parts) → Bytes s → r ≡ derivation_read (read_derivation s) → r ≡ asDerivation.Derivation v → v.delegations ≤ 15
+pub chain_short : (s : List ℕ) (r : DerivationRead) (v : Parts) → Bytes s → r ≡ derivation_read (read_derivation s) → r ≡ as_derivation.Derivation v → v.delegations ≤ 15
 chain_short s r v b e h = go (read_derivation s) refl e
   where
     go : (p : Option derivation.Laid) → read_derivation s ≡ p → r ≡ derivation_read p → v.delegations ≤ 15

@@ -8,7 +8,7 @@ use Rattle.records.specs.Requests.{read_request}
 use Rattle.records.specs.declared.faults.Fault.{Fault}
 use Rattle.table.specs.ReadKeyTable.{KeyLaid}
 use Rattle.table.specs.ReadTable as table
-use Rattle.kernel.specs.Answers.{done, fault_number, wrong_request, notADerivation}
+use Rattle.kernel.specs.Answers.{done, fault_number, wrong_request, not_a_derivation}
 use Rattle.vectors.specs.declared.lines.Line.{Line}
 use Rattle.vectors.specs.declared.lines.Line.TheVariants.{One, Two, Three, Five}
 
@@ -42,5 +42,5 @@ key_request_line = whole_line wrong_request
 
 -- A derivation: how many bindings it lists and how many records its chain has.
 unfoldable pub derivation_line : Option derivation.Laid → Line
-derivation_line none = One notADerivation
+derivation_line none = One not_a_derivation
 derivation_line (some l) = Three done (length l.derivation.bindings) (suc (length l.derivation.delegations))
