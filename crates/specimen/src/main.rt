@@ -2,7 +2,6 @@
 #![tactic(auto)]
 
 use crate::tables::specimen_table;
-use std::io;
 
 mod limits;
 mod lines;
@@ -10,9 +9,9 @@ mod rows;
 mod tables;
 mod translations;
 
-fn main(rt: HostRuntime) -> io::Result<()> {
+fn main(rt: HostRuntime) {
     let table = specimen_table();
-    rows::answer(&rt, &table)?;
-    translations::answer(&rt, &table)?;
-    limits::answer(&rt)
+    rows::answer(&rt, &table);
+    translations::answer(&rt, &table);
+    limits::answer(&rt);
 }

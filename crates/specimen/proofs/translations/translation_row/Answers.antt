@@ -12,4 +12,4 @@ pub slice_bounds-write_bytes-end-2 : goal.slice_bounds-write_bytes-end-2
 slice_bounds-write_bytes-end-2 g c = sym (length-take-le _ _ (omega (arith, key_table_written (record { small = λ i. (c.type_inv.table i).fits }) c.rustamgheb_translate-answer.ensures)))
 
 pub returns : goal.returns
-returns g c = record { ok = omega (arith, key_table_written (record { small = λ i. (c.type_inv.table i).fits }) c.rustamgheb_translate-answer.ensures); err = tt }
+returns g c = omega (arith, key_table_written (record { small = λ i. (c.type_inv.table i).fits }) c.rustamgheb_translate-answer.ensures)
