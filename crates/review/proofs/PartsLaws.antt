@@ -4,7 +4,7 @@ use mathlib.Core.List.{List}
 use Prim.Native.Nat.{ℕ, ◌≤◌}
 use lib.ListN.{length}
 use lib.Seq.{length-take-le}
-use Rattle.review.specs.Counts.{IsPrefixLen}
+use Rattle.streams.specs.Counts.{IsPrefixLen}
 use Rattle.review.specs.Writing.{PutFits}
 use Rattle.review.specs.Files.{Fits}
 use Rattle.review.specs.declared.writing.Put.{Put}

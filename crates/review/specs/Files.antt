@@ -1,6 +1,6 @@
 -- What was read of a file.
 use Rattle.std.specs.Prelude.{List, ℕ}
-use Rattle.review.specs.Counts.{IsPrefixLen}
+use Rattle.streams.specs.Counts.{IsPrefixLen}
 use Rattle.review.specs.declared.files.Part.{Part}
 use Rattle.review.specs.declared.files.Part.TheVariants.{Whole, Broken}
 

@@ -1,5 +1,4 @@
 -- What the reviewer's tool says.
-pub mod Counts
 pub mod Files
 pub mod Found
 pub mod Opened

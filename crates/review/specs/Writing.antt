@@ -1,6 +1,6 @@
 -- What was written of a request.
 use Rattle.std.specs.Prelude.{List, ℕ}
-use Rattle.review.specs.Counts.{IsPrefixLen}
+use Rattle.streams.specs.Counts.{IsPrefixLen}
 use Rattle.review.specs.declared.writing.Put.{Put}
 use Rattle.review.specs.declared.writing.Put.TheVariants.{Next, Not}
 

@@ -1,13 +1,14 @@
 // review check TABLE DERIVATION REQUEST: checks the derivation, and explains one that holds.
 use crate::answers::{say_answer, say_refusal};
 use crate::asking::ask;
-use crate::files::{Part, large_buffer, read_file};
+use crate::files::{Part, read_file};
 use crate::opening::{Task, open};
 use crate::printing::{say, say_with};
 use crate::writing::Form;
 use kernel::answers::DONE;
 use kernel::rustamgheb_check;
 use std::rt::{Env, Files};
+use streams::large_buffer;
 
 // Answers whether the derivation holds.
 fn answer(rt: &impl Print, table: &[u8], request: &[u8], derivation: &[u8]) {

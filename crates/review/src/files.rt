@@ -1,14 +1,15 @@
 // Files that words name.
 ghost use Rattle.std.specs.Prelude.{◌≡◌, length};
-ghost use Rattle.review.specs.Counts.{IsPrefixLen};
+ghost use Rattle.streams.specs.Counts.{IsPrefixLen};
 ghost use Rattle.review.specs.Files.{Fits};
 
 use crate::answers::{NO_INPUT, NO_OUTPUT, say_answer};
 use crate::printing::say;
 use std::fs;
 use std::fs::OpenFile;
-use std::io::{ErrorKind, Read, Write};
+use std::io::{ErrorKind, Write};
 use std::rt::{Env, Files};
+use streams::read_full;
 
 // What was read stands at the start of a buffer: its first bytes, or nothing.
 #[derive(Clone, Copy)]
@@ -22,13 +23,6 @@ fn path_buffer() -> [u8; 4096]
     ensures { 4096 ≡ length result }
 {
     [0; 4096]
-}
-
-// 65,536 zeros, for a file.
-pub fn large_buffer() -> [u8; 65536]
-    ensures { 65536 ≡ length result }
-{
-    [0; 65536]
 }
 
 // Puts word number `i` at the start of the buffer and answers its length, or 0 where it is missing or longer than the buffer.
@@ -54,21 +48,6 @@ fn failed(rt: &(impl Env + Print), number: u32, why: &[u8], i: usize) {
     say(rt, why);
     say_word(rt, i);
     say(rt, b"\n");
-}
-
-// Reads until the buffer is full, the input ends or a read fails, and answers how many bytes it put at the start of the buffer.
-fn read_full(file: &mut impl Read, buffer: &mut [u8]) -> usize
-    ensures { IsPrefixLen result buffer.new }
-{
-    let mut done = 0;
-    while done < buffer.len() {
-        match file.read(&mut buffer[done..]) {
-            Ok(0) => break,
-            Ok(n) => done += n,
-            Err(_) => break,
-        }
-    }
-    done
 }
 
 // Whether the system has taken what was written, where a write alone may not tell. A pipe or a device that knows no such question has taken it.

@@ -4,12 +4,13 @@
 
 use crate::answers::{WRONG_USE, say_answer};
 use crate::asking::ask;
-use crate::files::{Part, large_buffer, read_file};
+use crate::files::{Part, read_file};
 use crate::opening::{Task, open};
 use crate::printing::say;
 use crate::words::is_word;
 use crate::writing::Form;
 use std::rt::{Env, Files};
+use streams::large_buffer;
 
 mod answers;
 mod asking;

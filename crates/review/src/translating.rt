@@ -1,10 +1,11 @@
 // review translate TABLE OUT: writes the table's key table.
 use crate::answers::{say_answer, say_refusal};
-use crate::files::{Part, large_buffer, read_file, write_file};
+use crate::files::{Part, read_file, write_file};
 use crate::printing::{say, say_count};
 use kernel::answers::DONE;
 use kernel::rustamgheb_translate;
 use std::rt::{Env, Files};
+use streams::large_buffer;
 
 // Writes the key table, and says so.
 fn done(rt: &(impl Env + Files + Print), key_table: &[u8]) {

@@ -2,7 +2,8 @@
 use mathlib.Core.Path.{◌≡◌, subst}
 use mathlib.Core.List.{List}
 use Prim.Native.Nat.{ℕ}
-use Rattle.vectors.specs.Parts.{IsPrefixLen, Fits}
+use Rattle.streams.specs.Counts.{IsPrefixLen}
+use Rattle.vectors.specs.Parts.{Fits}
 use Rattle.vectors.specs.declared.input.Part.{Part}
 use Rattle.vectors.specs.declared.input.Part.TheVariants.{Whole}
 

@@ -1,5 +1,4 @@
 -- What the answer lines say.
-pub mod Digits
 pub mod Hashes
 pub mod Lines
 pub mod Parts

@@ -1,9 +1,9 @@
 // Kind 11: checks a derivation.
 use crate::input::{Part, read_part};
 use crate::lines::write_answer_line;
-use crate::streams::large_buffer;
 use kernel::rustamgheb_check;
 use std::io::{Read, Write};
+use streams::large_buffer;
 
 // Answers the case, and says whether to go on.
 pub fn answer<R: Read, W: Write, E: Write>(input: &mut R, out: &mut W, errors: &mut E) -> bool {

@@ -6,10 +6,10 @@ ghost use Rattle.vectors.specs.Hashes.{hash_of, numbers_bytes};
 use crate::hashes::{hash_of, hash_of_numbers, wide, write_hash, write_hex};
 use crate::input::{Part, read_part};
 use crate::lines::{end_line, write_answer};
-use crate::streams::{large_buffer, write_all};
 use kernel::answers::Answer;
 use kernel::rustamgheb_decide;
 use std::io::{Read, Write};
+use streams::{large_buffer, write_all};
 
 // What the line says: the answer, the hash of the whole sheet, and the hash of the bytes behind the derivation.
 #[derive(Clone, Copy)]

@@ -2,8 +2,8 @@
 ghost use Rattle.std.specs.Prelude.{◌≡◌};
 ghost use Rattle.vectors.specs.Hashes.{hashed, hash_from, hash_of, four_bytes, numbers_bytes};
 
-use crate::streams::{print_hex, write_all};
 use std::io::Write;
+use streams::{print_hex, write_all};
 
 // The hash of no bytes.
 const START: u32 = 2166136261;

@@ -2,8 +2,8 @@
 ghost use Rattle.std.specs.Prelude.{◌≡◌, false, ◌+◌, ◌*◌};
 ghost use Rattle.vectors.specs.Parts.{Fits};
 
-use crate::streams::{read_full, write_all};
 use std::io::{Read, Write};
+use streams::{read_full, write_all};
 
 // A part that stands whole at the start of a buffer, with its length.
 #[derive(Clone, Copy)]

@@ -2,10 +2,10 @@
 ghost use Rattle.std.specs.Prelude.{◌≡◌};
 ghost use Rattle.vectors.specs.Lines.{fault_line};
 
-use crate::streams::{print_decimal, write_all};
 use kernel::answers::{Answer, number_of};
 use records::faults::Fault;
 use std::io::Write;
+use streams::{print_decimal, write_all};
 
 // The numbers of a line.
 #[derive(Clone, Copy)]

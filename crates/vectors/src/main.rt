@@ -3,8 +3,8 @@
 
 use crate::input::stopped;
 use crate::parts::{answer_one, answer_two};
-use crate::streams::read_full;
 use std::io::{Read, Write};
+use streams::read_full;
 
 mod checks;
 mod decisions;
@@ -18,7 +18,6 @@ mod lines;
 mod parts;
 mod requests;
 mod sheets;
-mod streams;
 mod tables;
 mod translations;
 

@@ -1,10 +1,10 @@
 // Cases of one part and of two parts.
 use crate::input::{Part, read_part};
-use crate::streams::large_buffer;
 use crate::{
     derivations, key_decisions, key_requests, key_tables, requests, sheets, tables, translations,
 };
 use std::io::{Read, Write};
+use streams::large_buffer;
 
 // Answers a case of one part.
 fn answer_part<W: Write>(out: &mut W, kind: u8, bytes: &[u8]) {

@@ -1,13 +1,15 @@
-// Reading until a buffer is full, and writing bytes and numbers, over any stream.
+// Reading until a buffer is full, and writing bytes and numbers, over any stream: what the programs share.
+#![tactic(auto)]
+
 ghost use Rattle.std.specs.Prelude.{◌≡◌, length, take, true};
 ghost use Rattle.std.specs.Io.KnownBytes.{Appends, Consumes};
 ghost use Rattle.std.specs.Fmt.{decimal};
-ghost use Rattle.vectors.specs.Parts.{IsPrefixLen};
-ghost use Rattle.vectors.specs.Digits.{padded_hex};
+ghost use Rattle.streams.specs.Counts.{IsPrefixLen};
+ghost use Rattle.streams.specs.Digits.{padded_hex};
 
 use std::io::{Read, Write};
 
-// 65,536 zeros: room for a part of a case.
+// 65,536 zeros: room for a file, or for a part of a case.
 pub fn large_buffer() -> [u8; 65536]
     ensures { 65536 ≡ length result }
 {

@@ -1,0 +1,3 @@
+-- What is read and written.
+pub mod Counts
+pub mod Digits
