@@ -66,7 +66,7 @@ APART = {"fillOne": "filled_one", "goesOn": "gone_on", "oneKey": "only_key", "ta
 INNER = {
     "notADerivation": "not_a_derivation", "becomesNothing": "becomes_nothing", "findsNothing": "finds_nothing", "findsKey": "finds_key",
     "packedNames": "packed_names", "bindingPlaces": "binding_places", "accessPlaces": "access_places", "delegationPlaces": "delegation_places",
-    "keyTable": "key_table", "keyRequest": "key_request", "keyAnswer": "key_answer", "keyLoaded": "key_loaded", "byKeys": "by_keys",
+    "keyTable": "key_table", "keyTable₀": "key_table₀", "keyRequest": "key_request", "keyAnswer": "key_answer", "keyLoaded": "key_loaded", "byKeys": "by_keys",
     "byBefore": "by_before", "sheetRoom": "room_of_sheet", "asHanded": "the_handed", "asBound": "the_bound", "asKeyRequest": "as_key_request",
     **{f"as{it}": f"as_{it.lower()}" for it in "Access Answer Binding Delegation Depth Derivation Field Given Key Made Numbers Path Read Request Section Space Target Use".split()},
 }

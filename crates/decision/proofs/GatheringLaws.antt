@@ -29,7 +29,7 @@ use Rattle.matching.specs.declared.Given.TheVariants as as_given
 use Rattle.matching.proofs.MatchingLaws.{gives_to, gives_none}
 use Rattle.reach.specs.Graphs.{RootTo}
 use Rattle.decision.specs.Gathering.{IsNode, space, stranger, FindsNode, node, GivenSo}
-use Rattle.decision.specs.Gathering.{nobody as no_Node}
+use Rattle.decision.specs.Gathering.{nobody as no_node}
 use Rattle.decision.specs.declared.gathering.NodeFound.{NodeFound}
 use Rattle.decision.specs.declared.gathering.NodeFound.TheVariants as found
 
@@ -72,15 +72,15 @@ module _ (keys : List ℕ) (subject k : Key) (r : SpaceFound) (f : FindsSpace (k
       (node (subst (λ (m : Key). IsNode (keys_of keys) subject (length (keys_of keys)) m) q (stranger (λ S s. space_none f e S (subst (λ (m : Key). IsSelf (keys_of keys) S m) q s)))))
 
   pub node_nobody : r ≡ as_space.None → (k.0 ≡ subject.0 → ⊥) → FindsNode (keys_of keys) subject k found.Nobody
-  node_nobody e h = no_Node (λ v n. not_node (keys_of keys) subject n (space_none f e) h)
+  node_nobody e h = no_node (λ v n. not_node (keys_of keys) subject n (space_none f e) h)
 
 pub finds_node : {spaces : List Key} {subject k : Key} {r : NodeFound} (v : ℕ) → FindsNode spaces subject k r → r ≡ found.Node v → IsNode spaces subject v k
 finds_node {spaces} {subject} {k} v (node {v = u} n) e = let q : u ≡ v = cc in subst (λ (x : ℕ). IsNode spaces subject x k) q n
-finds_node v (no_Node f) e = let z : ◌≡◌ {A = ℕ} 0 1 = cc in absurd (omega arith)
+finds_node v (no_node f) e = let z : ◌≡◌ {A = ℕ} 0 1 = cc in absurd (omega arith)
 
 pub finds_nobody : {spaces : List Key} {subject k : Key} {r : NodeFound} → FindsNode spaces subject k r → r ≡ found.Nobody → (v : ℕ) → IsNode spaces subject v k → ⊥
 finds_nobody (node n) e v m = let z : ◌≡◌ {A = ℕ} 0 1 = cc in absurd (omega arith)
-finds_nobody (no_Node f) e v m = f v m
+finds_nobody (no_node f) e v m = f v m
 
 -- ---- one more access record
 module _ (t : Table) (good : GoodNames t.names) (sheet : List ℕ) (q : Asked Space) (subject : Key) (i : ℕ) (best roots : List ℕ) (so : GivenSo t sheet q subject i best roots) where

@@ -25,9 +25,9 @@ pub record TellsCheck (table request derivation : List ℕ) (r : Answer) : Type 
   pub told : r ≡ of_checked answer
 
 -- THE TRANSLATION as a host gets it.
-pub record TellsTranslation (table keyTable₀ : List ℕ) (r : Answer) (key_table : List ℕ) : Type 0 where
+pub record TellsTranslation (table key_table₀ : List ℕ) (r : Answer) (key_table : List ℕ) : Type 0 where
   pub answer : Translated
-  pub promised : Answers table keyTable₀ answer key_table
+  pub promised : Answers table key_table₀ answer key_table
   pub told : r ≡ of_translated answer
 
 -- THE DECISION OVER A KEY TABLE as a host gets it.
