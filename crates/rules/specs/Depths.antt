@@ -1,8 +1,7 @@
 -- Depths: they run from 0 to 15, and one step below 15 is 14.
-use Rattle.std.specs.Prelude.{◌≡◌, ℕ, zero, suc, ◌≤◌, ◌-◌, min, leb}
+use Rattle.std.specs.Prelude.{◌≡◌, ℕ, zero, suc, ◌≤◌, ◌-◌, min, leb, Option, Some, None}
 use Rattle.rules.specs.Choice.{pick}
-use Rattle.rules.specs.declared.Made.{Made}
-use Rattle.rules.specs.declared.Made.TheVariants.{Good, TooDeep}
+use Rattle.rules.specs.declared.Depth.{Depth}
 
 abbrev pub top : ℕ
 top = 15
@@ -17,8 +16,8 @@ pub record Step (a d r : ℕ) : Type 0 where
   pub smaller : r ≡ min (a - 1) d
 
 -- What the checked constructor answers: a number above 15 is refused.
-abbrev pub made : ℕ → Made
-made n = pick (leb n top) (Good (record { 0 = n })) TooDeep
+abbrev pub made : ℕ → Option Depth
+made n = pick (leb n top) (Some (record { 0 = n })) None
 
 -- The step, computed. A code is 0 for no access, and d + 1 for access at d.
 abbrev pub step_code : ℕ → ℕ → ℕ
