@@ -1,7 +1,7 @@
 -- The examples that are printed for the format, by computation.
 use mathlib.Core.Path.{◌≡◌, refl}
 use mathlib.Core.List.{[], ◌∷◌}
-use Rattle.wire.specs.declared.Number.TheVariants.{Value, Cut, Wrong}
+use Rattle.wire.specs.Number.{Value, Cut, Wrong}
 use Rattle.wire.specs.Number.{joined, groups_at, number_at, groups_of, bytes_of}
 
 -- 127 is `7F`.

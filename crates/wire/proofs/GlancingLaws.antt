@@ -1,5 +1,5 @@
 -- A number seen at a glance is the number that is read there: both gather the same groups.
-use mathlib.Core.Path.{◌≡◌, refl, sym, ap, ◌∙◌}
+use mathlib.Core.Path.{◌≡◌, refl, sym, subst, ap, ◌∙◌}
 use mathlib.Core.Logic.{⊎_elim}
 use mathlib.Core.List.{List}
 use Prim.Native.Nat.{ℕ, suc, ◌+◌, ◌-◌, ◌*◌, ◌%◌, ◌^◌, ◌≤◌, ◌<◌}
@@ -7,16 +7,12 @@ use native.Mathlib.Nat.{zero-lt-suc, pow-suc, pow-le-pow_right, add-mul}
 use native.Mathlib.Omega.{arith}
 use lib.ListN.{length, get_or, drop, length-drop}
 use lib.Seq.{get_or-drop}
-use Rattle.wire.specs.declared.glancing.Glance.{Glance}
-use Rattle.wire.specs.declared.Number.TheVariants.{Value}
+use Rattle.wire.specs.Number.{Value}
 use Rattle.wire.specs.Number.{most_number}
 use Rattle.wire.specs.Reading.{ended}
 use Rattle.wire.specs.Glancing.{Glances}
 use Rattle.wire.proofs.PartsLaws.{below_or}
 use Rattle.wire.proofs.ReadingLaws.{Counts, first, second, third, fourth, fifth, Gathered, gathered_start, gathered_end, gathered_on, counts_here, ended_first, ended_value}
-
-pub glances_none : (low high : ℕ) (s : List ℕ) (at : ℕ) (r : Glance) → r ≡ record { value = 0; next = 0 } → Glances low high s at r
-glances_none low high s at r e = rw e (record { most = omega arith; least = λ h. absurd (omega arith); told = λ h. absurd (omega arith) })
 
 -- So many groups with a set top bit stand from the place on; the next one may be 0 only where it is the first, and `low` is.
 pub record Glancing (s : List ℕ) (at low more value unit least i : ℕ) : Type 0 where
@@ -113,11 +109,20 @@ module _ (s : List ℕ) (at low more value unit least i : ℕ) (g : Glancing s a
         (λ p. let f = g.later p in omega (arith, g.small, f, w.2 (omega (arith, f))))
         (below_or i 1))
 
-    pub glancing_told : (high : ℕ) → value_here ≤ high → high ≤ most_number → (r : Glance) → r ≡ record { value = value_here; next = at + i + 1 } → Glances low high s at r
-    glancing_told high k n r q =
-        rw q
-        (record {
-          most = k;
-          least = λ _. least_here;
-          told = λ _. (i + 1, sym (gathered_end (drop at s) value unit i g.gathered b there byte m (Value value_here (i + 1)) (ends (omega arith))), omega arith);
-        })
+    pub glancing_told : (high : ℕ) → value_here ≤ high → high ≤ most_number → Glances low high s at value_here (at + i + 1)
+    glancing_told high k n = record {
+      most = k;
+      least = least_here;
+      told = (i + 1, sym (gathered_end (drop at s) value unit i g.gathered b there byte m (Value value_here (i + 1)) (ends (omega arith))), omega arith);
+    }
+
+-- The longest form is told whole: its last byte has no group behind it.
+pub glancing_last : (s : List ℕ) (at low more value unit least i : ℕ) → Glancing s at low more value unit least i → more ≤ i → (b : ℕ) → at + more < length s → b ≡ get_or s (at + more) 0
+    → (last : ℕ) → least ≤ b → b ≤ last → last < 128 → (last + 1) * 128 ^ more ≤ 2 ^ 32 → Glances low ((last + 1) * 128 ^ more - 1) s at (value + b * unit) (at + more + 1)
+glancing_last s at low more value unit least i g l b h e last least_is k m n =
+    let q : i ≡ more = omega (arith, g.few) in
+    let r : b % 128 ≡ b = omega arith in
+    let all : Glancing s at low more value unit least more = subst (Glancing s at low more value unit least) q g in
+    rw (← r)
+    (glancing_told s at low more value unit least more all b h e least_is (omega arith) ((last + 1) * 128 ^ more - 1)
+    (glancing_long s at low more value unit least more all b last (omega arith) k m) (omega (arith, n)))

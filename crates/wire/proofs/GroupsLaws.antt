@@ -9,8 +9,7 @@ use lib.Dec.{leb, eqb}
 use lib.ListN.{length, take}
 use borrow.Author.Tests.{lt-ltb, le-ltb, le-leb, ne_eqb, leb-true, eqb-false}
 use Rattle.rules.specs.Choice.{pick}
-use Rattle.wire.specs.declared.Number.{Number}
-use Rattle.wire.specs.declared.Number.TheVariants.{Value, Cut, Wrong}
+use Rattle.wire.specs.Number.{Number, Value, Cut, Wrong}
 use Rattle.wire.specs.Number.{most_number, joined, groups_at, groups_of, Bytes}
 use Rattle.wire.proofs.PartsLaws.{below_or}
 

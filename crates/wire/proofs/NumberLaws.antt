@@ -7,7 +7,7 @@ use native.Mathlib.Nat.{pow-suc}
 use native.Mathlib.Omega.{arith}
 use lib.ListN.{length, get_or, take, drop, take-append-drop}
 use lib.Seq.{length-take-le, get_or-drop, get_or-append-add}
-use Rattle.wire.specs.declared.Number.TheVariants.{Value}
+use Rattle.wire.specs.Number.{Value}
 use Rattle.wire.specs.Number.{groups_at, groups_of, number_at, bytes_of, Bytes}
 use Rattle.wire.proofs.PartsLaws.{below_or}
 use Rattle.wire.proofs.GroupsLaws.{of_last, of_on, of_cases, first_last, first_on, joined_value, reads}

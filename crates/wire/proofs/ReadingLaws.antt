@@ -10,8 +10,7 @@ use lib.ListN.{length, get_or, drop, drop_of_length-le}
 use lib.Seq.{drop-cons}
 use borrow.Author.Tests.{le-leb, lt-leb, eq-eqb, ne_eqb, eqb-false, leb-false}
 use Rattle.rules.specs.Choice.{pick}
-use Rattle.wire.specs.declared.Number.{Number}
-use Rattle.wire.specs.declared.Number.TheVariants.{Value, Cut, Wrong}
+use Rattle.wire.specs.Number.{Number, Value, Cut, Wrong}
 use Rattle.wire.specs.Number.{most_number, most_bytes, joined, groups_at, number_at}
 use Rattle.wire.specs.Reading.{ended, behind}
 use Rattle.wire.proofs.GroupsLaws.{first_last, first_on}

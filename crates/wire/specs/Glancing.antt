@@ -1,11 +1,9 @@
 -- A number seen at a glance: most numbers are told so, and the others are left to reading.
-use Rattle.std.specs.Prelude.{◌≡◌, List, ℕ, ◌+◌, ◌≤◌, ◌<◌, drop}
-use Rattle.wire.specs.declared.glancing.Glance.{Glance}
-use Rattle.wire.specs.declared.Number.TheVariants.{Value}
-use Rattle.wire.specs.Number.{number_at}
+use Rattle.std.specs.Prelude.{◌≡◌, List, ℕ, ◌+◌, ◌≤◌, drop}
+use Rattle.wire.specs.Number.{Value, number_at}
 
--- The number at a place, from `low` to `high`, with the place after it; where that is 0, nothing is told.
-pub record Glances (low high : ℕ) (s : List ℕ) (at : ℕ) (r : Glance) : Type 0 where
-  pub most : r.value ≤ high
-  pub least : 0 < r.next → low ≤ r.value
-  pub told : 0 < r.next → (n : ℕ) × (number_at (drop at s) ≡ Value r.value n) × (r.next ≡ at + n)
+-- The number at a place, from `low` to `high`, and the place after it.
+pub record Glances (low high : ℕ) (s : List ℕ) (at value next : ℕ) : Type 0 where
+  pub most : value ≤ high
+  pub least : low ≤ value
+  pub told : (n : ℕ) × (number_at (drop at s) ≡ Value value n) × (next ≡ at + n)

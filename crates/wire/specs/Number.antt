@@ -1,9 +1,9 @@
 -- Numbers as bytes. All numbers stand in groups of seven bits, low group first; the top bit is set in every byte but the last.
 -- At most five bytes, shortest form only, at most 4,294,967,295. What breaks this is `Wrong`, the answer Number.
-use Rattle.std.specs.Prelude.{List, [], ◌∷◌, ℕ, zero, suc, ◌+◌, ◌-◌, ◌*◌, ◌/◌, ◌%◌, ◌<◌, ltb, leb, eqb, get_or}
+use Rattle.std.specs.Prelude.{List, [], ◌∷◌, ℕ, zero, suc, ◌+◌, ◌-◌, ◌*◌, ◌/◌, ◌%◌, ◌<◌, ltb, leb, eqb, get_or, Result, Ok, Err}
 use Rattle.rules.specs.Choice.{pick}
-use Rattle.wire.specs.declared.Number.{Number}
-use Rattle.wire.specs.declared.Number.TheVariants.{Value, Cut, Wrong}
+use Rattle.wire.specs.declared.NumberFault.{NumberFault}
+use Rattle.wire.specs.declared.NumberFault.TheVariants as fault
 
 abbrev pub most_number : ℕ
 most_number = 4294967295
@@ -12,6 +12,12 @@ abbrev pub most_bytes : ℕ
 most_bytes = 5
 
 -- ---- reading
+-- What bytes hold where a number is to begin: the number and the bytes it takes, or why there is none.
+pub data Number : Type 0 where
+  Value : ℕ → ℕ → Number
+  Cut : Number
+  Wrong : Number
+
 -- The group of a byte with a set top bit, before the number that the groups after it hold.
 unfoldable pub joined : ℕ → Number → Number
 -- Shortest form only, so the groups after it are not 0; at most 4,294,967,295.
@@ -31,6 +37,12 @@ groups_at (suc left) (b ∷ s) = pick (ltb b 128) (Value b 1) (joined (b - 128) 
 -- THE NUMBER that `s` begins with.
 abbrev pub number_at : List ℕ → Number
 number_at s = groups_at most_bytes s
+
+-- As code answers.
+abbrev pub number_read : Number → Result (ℕ × ℕ) NumberFault
+number_read (Value v n) = Ok (v, n)
+number_read Cut = Err fault.Cut
+number_read Wrong = Err fault.Wrong
 
 -- ---- writing
 -- The groups of `v`, in at most so many bytes.

@@ -2,8 +2,7 @@
 use Rattle.std.specs.Prelude.{ℕ, zero, suc, ◌+◌, ◌*◌, leb, eqb}
 use Rattle.rules.specs.Choice.{pick}
 use Rattle.wire.specs.Number.{most_number}
-use Rattle.wire.specs.declared.Number.{Number}
-use Rattle.wire.specs.declared.Number.TheVariants.{Value, Cut, Wrong}
+use Rattle.wire.specs.Number.{Number, Value, Cut, Wrong}
 
 -- The number that is `value` in all, with so many bytes before its last.
 unfoldable pub ended : ℕ → ℕ → ℕ → Number

@@ -2,69 +2,53 @@
 #![tactic(auto)]
 
 ghost use Rattle.std.specs.Prelude.{◌≡◌, ◌+◌, ◌≤◌, ◌<◌, length};
-ghost use Rattle.wire.specs.Number.{most_bytes, number_at, bytes_of};
+ghost use Rattle.wire.specs.Number.{most_bytes, number_at, number_read, bytes_of};
 ghost use Rattle.wire.specs.Reading.{ended};
 ghost use Rattle.wire.specs.Placed.{placed};
 
 pub mod glancing;
 
-// What the bytes hold where a number is to begin.
-#[derive(Clone, Copy)]
-pub enum Number {
-    // The number, and the bytes it takes.
-    Value(u32, usize),
+// Why the bytes hold no number where one is to begin.
+#[derive(Clone, Copy, PartialEq, Eq)]
+pub enum NumberFault {
     // The bytes end before its last one.
     Cut,
     // Not the shortest form, too large, or no end in five bytes.
     Wrong,
 }
 
-const MOST_NUMBER: u64 = 4294967295;
-
-// The byte, as a wider number.
-fn wide(byte: u8) -> u64
-    ensures { result ≡ byte }
-{
-    byte as u64
-}
-
-// The number that is `value` in all and whose last byte this is, where `i` bytes stand before it.
-fn end(value: u64, i: usize, byte: u64) -> Number
+// The number that is `value` in all and whose last byte this is, where `i` bytes stand before it; with the bytes it takes.
+fn end(value: u64, i: usize, byte: u64) -> Result<(u32, usize), NumberFault>
     requires { (i < most_bytes) × (i ≡ 0 → value < 128) }
-    ensures { result ≡ ended value i byte }
+    ensures { result ≡ number_read (ended value i byte) }
 {
     if i == 0 {
-        return Number::Value(value as u32, 1);
+        return Ok((value as u32, 1));
     }
-    if byte == 0 {
-        return Number::Wrong;
+    if byte == 0 || u64::from(u32::MAX) < value {
+        return Err(NumberFault::Wrong);
     }
-    if MOST_NUMBER < value {
-        return Number::Wrong;
-    }
-    Number::Value(value as u32, i + 1)
+    Ok((value as u32, i + 1))
 }
 
-// The number that `rest` begins with, group by group: each counts 128 times as much as the one before it.
-pub fn read(rest: &[u8]) -> Number
-    ensures { result ≡ number_at rest.now }
+// The number that `rest` begins with, and the bytes it takes, group by group: each counts 128 times as much as the one before it.
+pub fn read(rest: &[u8]) -> Result<(u32, usize), NumberFault>
+    ensures { result ≡ number_read (number_at rest.now) }
 {
     let mut value = 0;
     let mut unit = 1;
-    let mut i = 0;
-    while i < rest.len() {
-        let byte = wide(rest[i]);
-        value = value + byte % 128 * unit;
+    for (i, &group) in rest.iter().enumerate() {
+        let byte = u64::from(group);
+        value += byte % 128 * unit;
         if byte < 128 {
             return end(value, i, byte);
         }
         if i == 4 {
-            return Number::Wrong;
+            return Err(NumberFault::Wrong);
         }
-        unit = unit * 128;
-        i = i + 1;
+        unit *= 128;
     }
-    Number::Cut
+    Err(NumberFault::Cut)
 }
 
 // Writes the number at the start of `out`, and returns how many bytes it takes.
