@@ -1,6 +1,7 @@
 -- What each way through the readers of derivations finds is what their definitions say.
 use mathlib.Core.Path.{◌≡◌, refl, sym, ◌∙◌, ap}
 use mathlib.Core.Bool.{Bool, true, false}
+use mathlib.Core.Option.{none}
 use mathlib.Core.List.{List, [], ◌∷◌, ◌++◌, append_assoc}
 use Prim.Native.Nat.{ℕ, suc, ◌+◌, ◌-◌, ◌<◌, ◌≤◌}
 use native.Mathlib.Omega.{arith}
@@ -9,25 +10,21 @@ use lib.Dec.{eqb}
 use lib.ListN.{length, get_or, set, replicate, length-set, length-replicate, get_or-replicate}
 use lib.Seq.{get_or-set_same, get_or-set_other}
 use borrow.Author.Tests.{eq-eqb, ne_eqb}
+use Rattle.std.specs.Prelude.{Some, None}
 use Rattle.rules.specs.Choice.{pick}
 use Rattle.rules.specs.Lists.{◌▷◌}
 use Rattle.wire.specs.Number.{bytes_of}
-use Rattle.records.specs.Parsed.{Parsed, got, bad, fault_at}
-use Rattle.records.specs.Fields.{field, field_read}
+use Rattle.records.specs.Parsed.{Parsed, got, bad, fault_at, place_after}
+use Rattle.records.specs.Fields.{field}
 use Rattle.records.specs.Rows.{is_among}
 use Rattle.records.specs.Many.{many, many_bytes}
-use Rattle.records.specs.Numbers.{numbers_read}
-use Rattle.records.specs.DerivationBytes.{most_derivation, listed_number, chain_number, Laid, derivation_fields, read_derivation, derivation_read, derivation_bytes}
+use Rattle.records.specs.Requests.{held_as}
+use Rattle.records.specs.DerivationBytes.{most_derivation, listed_number, chain_number, Laid, derivation_fields, read_derivation, parts_of, derivation_bytes}
 use Rattle.records.specs.declared.faults.Kind.TheVariants as kind
 use Rattle.records.specs.declared.faults.Fault.{Fault}
-use Rattle.records.specs.declared.fields.Field.{Field}
-use Rattle.records.specs.declared.fields.Field.TheVariants as as_field
-use Rattle.records.specs.declared.derivations.Numbers.{Numbers}
-use Rattle.records.specs.declared.derivations.Numbers.TheVariants as as_numbers
 use Rattle.records.proofs.ParsedLaws.{got_then, bad_first}
-use Rattle.records.proofs.FieldsLaws.{field_got, field_bad, field_within}
-use Rattle.records.specs.declared.derivations.DerivationRead.TheVariants as as_derivation
-use Rattle.records.proofs.RequestsLaws.{whole_long, whole_bad, whole_more, whole_got}
+use Rattle.records.proofs.FieldsLaws.{field_within}
+use Rattle.records.proofs.RequestsLaws.{held, whole_long, whole_bad, whole_more, whole_got}
 use Rattle.records.proofs.ManyLaws.{Going, going_start, going_on, going_bad, going_end, many_length}
 
 -- ---- which numbers were seen
@@ -78,23 +75,24 @@ pub record Listing (s : List ℕ) (count from : ℕ) (seen : List Bool) (at i : 
 pub listing_start : (s : List ℕ) (count from : ℕ) → Listing s count from (replicate 256 false) from 0
 listing_start s count from = record { most = omega arith; earlier = []; going = going_start listed_number s count from; marked = seen_none }
 
-module _ (s : List ℕ) (count from : ℕ) (seen : List Bool) (at i : ℕ) (l : Listing s count from seen at i) (h : i < count) (r : Field) (found : r ≡ field_read (field 0 255 s at)) where
-  pub listing_fails : (g : Fault) → r ≡ as_field.Fault g → as_numbers.Not ≡ numbers_read (many listed_number count [] s from)
-  listing_fails g e =
-      ap numbers_read (sym (going_bad listed_number s count from i at l.earlier l.going h g (bad_first (field 0 255 s at) _ (field_bad (field 0 255 s at) r g found e))))
+-- Where the faults of numbers are not told, none is found.
+pub not_after : {A : Type 0} {p : Parsed A} {e : Fault} → p ≡ bad e → None ≡ place_after p
+not_after e = rw e
 
-  module _ (v next : ℕ) (e : r ≡ as_field.Value v next) where
+module _ (s : List ℕ) (count from : ℕ) (seen : List Bool) (at i : ℕ) (l : Listing s count from seen at i) (h : i < count) where
+  pub listing_fails : (g : Fault) → field 0 255 s at ≡ bad g → None ≡ place_after (many listed_number count [] s from)
+  listing_fails g e = not_after (going_bad listed_number s count from i at l.earlier l.going h g (bad_first (field 0 255 s at) _ e))
+
+  module _ (v next : ℕ) (e : field 0 255 s at ≡ got v next) where
     pub listing_below : v < 256
-    listing_below = omega (arith, (field_within s at 0 255 r v next found e).1)
+    listing_below = omega (arith, (field_within s at 0 255 v next e).1)
 
     -- The next number, as it is read, given whether it was listed already.
     listed_next : (b : Bool) → is_among l.earlier v ≡ b → listed_number l.earlier s at ≡ pick b (bad (fault_at kind.Twice at)) (got v next)
-    listed_next b q = got_then (field 0 255 s at) _ (field_got (field 0 255 s at) r v next found e) ∙ ap (λ (c : Bool). pick c (bad (fault_at kind.Twice at)) (got v next)) q
+    listed_next b q = got_then (field 0 255 s at) _ e ∙ ap (λ (c : Bool). pick c (bad (fault_at kind.Twice at)) (got v next)) q
 
-    pub listing_twice : get_or seen v false ≡ true → as_numbers.Not ≡ numbers_read (many listed_number count [] s from)
-    listing_twice m =
-        ap numbers_read (sym (going_bad listed_number s count from i at l.earlier l.going h (fault_at kind.Twice at)
-        (listed_next true (sym (l.marked.marks v listing_below) ∙ m))))
+    pub listing_twice : get_or seen v false ≡ true → None ≡ place_after (many listed_number count [] s from)
+    listing_twice m = not_after (going_bad listed_number s count from i at l.earlier l.going h (fault_at kind.Twice at) (listed_next true (sym (l.marked.marks v listing_below) ∙ m)))
 
     pub listing_on : get_or seen v false ≡ false → Listing s count from (set seen v true) next (i + 1)
     listing_on m = record {
@@ -104,8 +102,8 @@ module _ (s : List ℕ) (count from : ℕ) (seen : List Bool) (at i : ℕ) (l : 
       marked = seen_more seen l.earlier v l.marked listing_below;
     }
 
-pub listing_end : (s : List ℕ) (count from : ℕ) (seen : List Bool) (at i : ℕ) → Listing s count from seen at i → count ≤ i → as_numbers.After at ≡ numbers_read (many listed_number count [] s from)
-listing_end s count from seen at i l h = ap numbers_read (sym (going_end listed_number s count from i at l.earlier l.going h))
+pub listing_end : (s : List ℕ) (count from : ℕ) (seen : List Bool) (at i : ℕ) → Listing s count from seen at i → count ≤ i → Some at ≡ place_after (many listed_number count [] s from)
+listing_end s count from seen at i l h = ap place_after (sym (going_end listed_number s count from i at l.earlier l.going h))
 
 -- ---- delegation numbers
 pub record Chaining (s : List ℕ) (count from at i : ℕ) : Type 0 where
@@ -117,89 +115,76 @@ pub chaining_start : (s : List ℕ) (count from : ℕ) → Chaining s count from
 chaining_start s count from = record { most = omega arith; earlier = []; going = going_start chain_number s count from }
 
 module _ (s : List ℕ) (count from at i : ℕ) (c : Chaining s count from at i) where
-  pub chaining_fails : i < count → (r : Field) (f : Fault) → r ≡ field_read (field 0 511 s at) → r ≡ as_field.Fault f → as_numbers.Not ≡ numbers_read (many chain_number count [] s from)
-  chaining_fails h r f found e = ap numbers_read (sym (going_bad chain_number s count from i at c.earlier c.going h f (field_bad (field 0 511 s at) r f found e)))
+  pub chaining_fails : i < count → (f : Fault) → field 0 511 s at ≡ bad f → None ≡ place_after (many chain_number count [] s from)
+  chaining_fails h f e = not_after (going_bad chain_number s count from i at c.earlier c.going h f e)
 
-  pub chaining_on : i < count → (r : Field) (v next : ℕ) → r ≡ field_read (field 0 511 s at) → r ≡ as_field.Value v next → Chaining s count from next (i + 1)
-  chaining_on h r v next found e =
-      record { most = omega arith; earlier = c.earlier ▷ v; going = going_on chain_number s count from i at c.earlier c.going h v next (field_got (field 0 511 s at) r v next found e) }
+  pub chaining_on : i < count → (v next : ℕ) → field 0 511 s at ≡ got v next → Chaining s count from next (i + 1)
+  chaining_on h v next e = record { most = omega arith; earlier = c.earlier ▷ v; going = going_on chain_number s count from i at c.earlier c.going h v next e }
 
-  pub chaining_end : count ≤ i → as_numbers.After at ≡ numbers_read (many chain_number count [] s from)
-  chaining_end h = ap numbers_read (sym (going_end chain_number s count from i at c.earlier c.going h))
+  pub chaining_end : count ≤ i → Some at ≡ place_after (many chain_number count [] s from)
+  chaining_end h = ap place_after (sym (going_end chain_number s count from i at c.earlier c.going h))
 
 -- ---- numbers as a part of a whole
-pub numbers_after : (p : Parsed (List ℕ)) (r : Numbers) (at : ℕ) → r ≡ numbers_read p → r ≡ as_numbers.After at → (l : List ℕ) × (p ≡ got l at)
-numbers_after (got l n) r at e h = (l, let q : n ≡ at = cc in ap (got l) q)
-numbers_after (bad g) r at e h = let z : ◌≡◌ {A = ℕ} 0 1 = cc in absurd (omega arith)
+pub numbers_after : {A : Type 0} (p : Parsed A) (at : ℕ) → Some at ≡ place_after p → (l : A) × (p ≡ got l at)
+numbers_after (got l n) at e = (l, let q : n ≡ at = cc in ap (got l) q)
+numbers_after (bad g) at e = let z : ◌≡◌ {A = ℕ} 0 1 = cc in absurd (omega arith)
 
-pub numbers_not : (p : Parsed (List ℕ)) (r : Numbers) → r ≡ numbers_read p → r ≡ as_numbers.Not → (g : Fault) × (p ≡ bad g)
-numbers_not (got l n) r e h = let z : ◌≡◌ {A = ℕ} 0 1 = cc in absurd (omega arith)
-numbers_not (bad g) r e h = (g, refl)
+pub numbers_not : {A : Type 0} (p : Parsed A) → None ≡ place_after p → (g : Fault) × (p ≡ bad g)
+numbers_not (got l n) e = let z : ◌≡◌ {A = ℕ} 0 1 = cc in absurd (omega arith)
+numbers_not (bad g) e = (g, refl)
 
 -- ---- a whole derivation
 module _ (s : List ℕ) where
-  pub derivation_long : most_derivation < length s → as_derivation.Not ≡ derivation_read (read_derivation s)
+  pub derivation_long : most_derivation < length s → read_derivation s ≡ none
   unfolding read_derivation
-  derivation_long h = ap derivation_read (sym (whole_long derivation_fields s most_derivation h))
+  derivation_long h = whole_long derivation_fields s most_derivation h
 
   module _ (h : length s ≤ most_derivation) where
-    not_one : (g : Fault) → derivation_fields s 0 ≡ bad g → as_derivation.Not ≡ derivation_read (read_derivation s)
+    not_one : (g : Fault) → derivation_fields s 0 ≡ bad g → read_derivation s ≡ none
     unfolding read_derivation
-    not_one g e = ap derivation_read (sym (whole_bad derivation_fields s most_derivation g h e))
+    not_one g e = whole_bad derivation_fields s most_derivation g h e
 
-    pub count_fails : (r : Field) (g : Fault) → r ≡ field_read (field 0 256 s 0) → r ≡ as_field.Fault g → as_derivation.Not ≡ derivation_read (read_derivation s)
+    pub count_fails : (g : Fault) → field 0 256 s 0 ≡ bad g → read_derivation s ≡ none
     unfolding derivation_fields
-    count_fails r g found e = not_one g (bad_first (field 0 256 s 0) _ (field_bad (field 0 256 s 0) r g found e))
+    count_fails g e = not_one g (bad_first (field 0 256 s 0) _ e)
 
-    module _ (r1 : Field) (found1 : r1 ≡ field_read (field 0 256 s 0)) (n first : ℕ) (e1 : r1 ≡ as_field.Value n first) (r2 : Numbers)
-        (found2 : r2 ≡ numbers_read (many listed_number n [] s first)) where
-      one : field 0 256 s 0 ≡ got n first
-      one = field_got (field 0 256 s 0) r1 n first found1 e1
-
-      pub listed_fail : r2 ≡ as_numbers.Not → as_derivation.Not ≡ derivation_read (read_derivation s)
+    module _ (n first : ℕ) (one : field 0 256 s 0 ≡ got n first) where
+      pub listed_fail : None ≡ place_after (many listed_number n [] s first) → read_derivation s ≡ none
       unfolding derivation_fields
       listed_fail e =
-          let w = numbers_not (many listed_number n [] s first) r2 found2 e in
+          let w = numbers_not (many listed_number n [] s first) e in
           not_one w.0 (got_then (field 0 256 s 0) _ one ∙ bad_first (many listed_number n [] s first) _ w.1)
 
-      module _ (a : ℕ) (e2 : r2 ≡ as_numbers.After a) (r3 : Field) (found3 : r3 ≡ field_read (field 1 16 s a)) where
+      module _ (a : ℕ) (e2 : Some a ≡ place_after (many listed_number n [] s first)) where
         two : (l : List ℕ) × (many listed_number n [] s first ≡ got l a)
-        two = numbers_after (many listed_number n [] s first) r2 a found2 e2
+        two = numbers_after (many listed_number n [] s first) a e2
 
-        pub length_fails : (g : Fault) → r3 ≡ as_field.Fault g → as_derivation.Not ≡ derivation_read (read_derivation s)
+        pub length_fails : (g : Fault) → field 1 16 s a ≡ bad g → read_derivation s ≡ none
         unfolding derivation_fields
-        length_fails g e =
-            not_one g (got_then (field 0 256 s 0) _ one ∙ got_then (many listed_number n [] s first) _ two.1 ∙ bad_first (field 1 16 s a) _ (field_bad (field 1 16 s a) r3 g found3 e))
+        length_fails g e = not_one g (got_then (field 0 256 s 0) _ one ∙ got_then (many listed_number n [] s first) _ two.1 ∙ bad_first (field 1 16 s a) _ e)
 
-        module _ (m chain : ℕ) (e3 : r3 ≡ as_field.Value m chain) (r4 : Field) (found4 : r4 ≡ field_read (field 0 255 s chain)) where
-          three : field 1 16 s a ≡ got m chain
-          three = field_got (field 1 16 s a) r3 m chain found3 e3
-
+        module _ (m chain : ℕ) (three : field 1 16 s a ≡ got m chain) where
           pub chain_some : 1 ≤ m
-          chain_some = (field_within s a 1 16 r3 m chain found3 e3).0
+          chain_some = (field_within s a 1 16 m chain three).0
 
-          pub access_fails : (g : Fault) → r4 ≡ as_field.Fault g → as_derivation.Not ≡ derivation_read (read_derivation s)
+          pub access_fails : (g : Fault) → field 0 255 s chain ≡ bad g → read_derivation s ≡ none
           unfolding derivation_fields
           access_fails g e =
-              not_one g (got_then (field 0 256 s 0) _ one ∙ got_then (many listed_number n [] s first) _ two.1 ∙ got_then (field 1 16 s a) _ three
-              ∙ bad_first (field 0 255 s chain) _ (field_bad (field 0 255 s chain) r4 g found4 e))
+              not_one g (got_then (field 0 256 s 0) _ one ∙ got_then (many listed_number n [] s first) _ two.1 ∙ got_then (field 1 16 s a) _ three ∙ bad_first (field 0 255 s chain) _ e)
 
-          module _ (access b : ℕ) (e4 : r4 ≡ as_field.Value access b) (r5 : Numbers) (found5 : r5 ≡ numbers_read (many chain_number (m - 1) [] s b)) where
-            four : field 0 255 s chain ≡ got access b
-            four = field_got (field 0 255 s chain) r4 access b found4 e4
-
-            pub rest_fails : r5 ≡ as_numbers.Not → as_derivation.Not ≡ derivation_read (read_derivation s)
+          module _ (access b : ℕ) (four : field 0 255 s chain ≡ got access b) where
+            pub rest_fails : None ≡ place_after (many chain_number (m - 1) [] s b) → read_derivation s ≡ none
             unfolding derivation_fields
             rest_fails e =
-                let w = numbers_not (many chain_number (m - 1) [] s b) r5 found5 e in
+                let w = numbers_not (many chain_number (m - 1) [] s b) e in
                 not_one w.0 (got_then (field 0 256 s 0) _ one ∙ got_then (many listed_number n [] s first) _ two.1 ∙ got_then (field 1 16 s a) _ three
                 ∙ got_then (field 0 255 s chain) _ four ∙ bad_first (many chain_number (m - 1) [] s b) _ w.1)
 
-            module _ (end : ℕ) (e5 : r5 ≡ as_numbers.After end) where
+            module _ (end : ℕ) (e5 : Some end ≡ place_after (many chain_number (m - 1) [] s b)) where
               five : (l : List ℕ) × (many chain_number (m - 1) [] s b ≡ got l end)
-              five = numbers_after (many chain_number (m - 1) [] s b) r5 end found5 e5
+              five = numbers_after (many chain_number (m - 1) [] s b) end e5
 
-              laid : Laid
+              pub laid : Laid
               laid = record { derivation = record { bindings = two.0; access = access; delegations = five.0 }; first = first; chain = chain }
 
               all_read : derivation_fields s 0 ≡ got laid end
@@ -208,16 +193,15 @@ module _ (s : List ℕ) where
                   got_then (field 0 256 s 0) _ one ∙ got_then (many listed_number n [] s first) _ two.1 ∙ got_then (field 1 16 s a) _ three
                   ∙ got_then (field 0 255 s chain) _ four ∙ got_then (many chain_number (m - 1) [] s b) _ five.1
 
-              pub derivation_more : (end ≡ length s → ⊥) → as_derivation.Not ≡ derivation_read (read_derivation s)
+              pub derivation_more : (end ≡ length s → ⊥) → read_derivation s ≡ none
               unfolding read_derivation
-              derivation_more q = ap derivation_read (sym (whole_more derivation_fields s most_derivation laid end h all_read q))
+              derivation_more q = whole_more derivation_fields s most_derivation laid end h all_read q
 
-              pub derivation_found : end ≡ length s
-                  → as_derivation.Derivation (record { bindings = n; first = first; delegations = m - 1; chain = chain }) ≡ derivation_read (read_derivation s)
+              pub derivation_found : end ≡ length s → Some (record { bindings = n; first = first; delegations = m - 1; chain = chain }) ≡ held_as parts_of (read_derivation s)
               unfolding read_derivation laid
               derivation_found q =
                   rw (sym (many_length listed_number n [] two.0 s first a two.1), sym (many_length chain_number (m - 1) [] five.0 s b end five.1))
-                  (ap derivation_read (sym (whole_got derivation_fields s most_derivation laid end h all_read q)))
+                  (held parts_of (whole_got derivation_fields s most_derivation laid end h all_read q))
 
 -- ---- its bytes as code writes them: five pieces
 pub pieces : (bindings : List ℕ) (access : ℕ) (delegations : List ℕ)

@@ -15,8 +15,8 @@ use Rattle.rules.specs.Ranges.{Between, most_key, most_object, most_right, GoodK
 use Rattle.rules.specs.declared.Key.{Key}
 use Rattle.rules.specs.declared.Space.{Space}
 use Rattle.wire.specs.Number.{number_at, bytes_of, Bytes}
-use Rattle.wire.specs.declared.Number.{Number}
-use Rattle.wire.specs.declared.Number.TheVariants as number
+use Rattle.wire.specs.Number.{Number}
+use Rattle.wire.specs.Number as number
 use Rattle.wire.proofs.NumberLaws.{number_read, number_form, number_small, number_there, bytes_drop}
 use Rattle.records.specs.Parsed.{got, bad, fault_at, moved_by}
 use Rattle.records.specs.Fields.{found_at, any_number, between, field, space_field, key_field, depth_field, use_fields}

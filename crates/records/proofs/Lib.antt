@@ -6,9 +6,6 @@ pub mod PathsLaws
 pub mod TargetsLaws
 pub mod RowsLaws
 pub mod BindingsLaws
-pub mod AccessesLaws
-pub mod DelegationsLaws
-pub mod KeyRecordsLaws
 pub mod RequestsLaws
 pub mod ManyLaws
 pub mod WritingLaws

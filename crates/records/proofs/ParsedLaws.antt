@@ -5,7 +5,10 @@ use mathlib.Core.List.{List}
 use mathlib.Core.Option.{Option, none, some, some-injective}
 use Prim.Native.Nat.{ℕ, ◌+◌}
 use native.Mathlib.Omega.{arith}
-use Rattle.records.specs.Parsed.{Parsed, got, bad, Reader, ◌⟫◌, ◌⊗◌, mapped, moved_by}
+use Rattle.std.specs.Prelude.{Option as Answer, Some, None, Result, Ok, Err, IsErrAnd}
+use Rattle.std.specs.Result.{result_ok}
+use Rattle.std.proofs.lemmas.Result.{err_from_is_err_and}
+use Rattle.records.specs.Parsed.{Parsed, got, bad, Reader, ◌⟫◌, ◌⊗◌, mapped, moved_by, found_as, found}
 use Rattle.records.specs.declared.faults.Fault.{Fault}
 
 module _ {A B : Type 0} (f : A → ℕ → Parsed B) where
@@ -94,3 +97,47 @@ module _ {A : Type 0} where
 
   pub some_one : {p : Option A} {x y : A} → p ≡ some x → p ≡ some y → x ≡ y
   some_one {x = x} {y = y} e h = some-injective x y (sym e ∙ h)
+
+-- ---- what code's answer says of the reading, and the reading of the answer
+module _ {A B : Type 0} (f : A → B) where
+  pub found_got : (p : Parsed A) {v : B} {at : ℕ} → Ok (v, at) ≡ found_as f p → (x : A) × (p ≡ got x at) × (v ≡ f x)
+  found_got (got x n) {v = v} {at = at} e = let q : ◌≡◌ {A = B × ℕ} (v, at) (f x, n) = cc in (x, ap (λ w. got x w.1) (sym q), ap (λ w. w.0) q)
+  found_got (bad d) e = let z : ◌≡◌ {A = ℕ} 0 1 = cc in absurd (omega arith)
+
+  pub found_bad : (p : Parsed A) {e : Fault} → Err e ≡ found_as f p → p ≡ bad e
+  found_bad (got x n) h = let z : ◌≡◌ {A = ℕ} 0 1 = cc in absurd (omega arith)
+  found_bad (bad d) {e = e} h = let u : d ≡ e = cc in ap bad u
+
+  pub as_got : {p : Parsed A} {x : A} {at : ℕ} → p ≡ got x at → Ok (f x, at) ≡ found_as f p
+  as_got e = rw e
+
+  pub as_bad : {p : Parsed A} {e : Fault} → p ≡ bad e → Err e ≡ found_as f p
+  as_bad e = rw e
+
+  -- A fault that is passed on is the reading's.
+  pub passed_on : {p : Parsed A} {r : Result (B × ℕ) Fault} {e : Fault} → IsErrAnd r (λ d. d ≡ e) → p ≡ bad e → r ≡ found_as f p
+  passed_on {r = r} h e = let q = err_from_is_err_and r h in rw (q.1, q.2, e)
+
+  -- The same where code asks only whether there is a value.
+  pub ok_got : (p : Parsed A) {r : Result (B × ℕ) Fault} {v : B} {at : ℕ} → r ≡ found_as f p → Some (v, at) ≡ result_ok r → (x : A) × (p ≡ got x at) × (v ≡ f x)
+  ok_got p {r = r} {v = v} {at = at} e h = found_got p (is r h ∙ e)
+    where
+      is : (r : Result (B × ℕ) Fault) → Some (v, at) ≡ result_ok r → Ok (v, at) ≡ r
+      is (Ok w) h = let q : ◌≡◌ {A = B × ℕ} (v, at) w = cc in ap Ok q
+      is (Err g) h = let z : ◌≡◌ {A = ℕ} 0 1 = cc in absurd (omega arith)
+
+  pub ok_bad : (p : Parsed A) {r : Result (B × ℕ) Fault} → r ≡ found_as f p → None ≡ result_ok r → (e : Fault) × (p ≡ bad e)
+  ok_bad (got x n) {r = r} e h = let q : ◌≡◌ {A = Answer (B × ℕ)} None (Some (f x, n)) = h ∙ ap result_ok e in let z : ◌≡◌ {A = ℕ} 0 1 = cc q in absurd (omega arith)
+  ok_bad (bad d) e h = (d, refl)
+
+pub same_got : {A : Type 0} (p : Parsed A) {v : A} {at : ℕ} → Ok (v, at) ≡ found p → p ≡ got v at
+same_got p {at = at} e = let q = found_got (λ x. x) p e in q.1 ∙ ap (λ x. got x at) (sym q.2)
+
+pub same_bad : {A : Type 0} (p : Parsed A) {e : Fault} → Err e ≡ found p → p ≡ bad e
+same_bad p e = found_bad (λ x. x) p e
+
+pub same_ok_got : {A : Type 0} (p : Parsed A) {r : Result (A × ℕ) Fault} {v : A} {at : ℕ} → r ≡ found p → Some (v, at) ≡ result_ok r → p ≡ got v at
+same_ok_got p {at = at} e h = let q = ok_got (λ x. x) p e h in q.1 ∙ ap (λ x. got x at) (sym q.2)
+
+pub same_ok_bad : {A : Type 0} (p : Parsed A) {r : Result (A × ℕ) Fault} → r ≡ found p → None ≡ result_ok r → (e : Fault) × (p ≡ bad e)
+same_ok_bad p e h = ok_bad (λ x. x) p e h

@@ -1,23 +1,24 @@
 -- What each way through the readers of requests finds is what their definitions say.
-use mathlib.Core.Path.{◌≡◌, sym, ◌∙◌, ap}
+use mathlib.Core.Path.{◌≡◌}
 use mathlib.Core.List.{List}
-use mathlib.Core.Option.{none, some}
+use mathlib.Core.Option.{Option, none, some}
 use Prim.Native.Nat.{ℕ, ◌<◌, ◌≤◌}
 use lib.ListN.{length}
 use borrow.Author.Tests.{lt-leb, le-leb, eq-eqb, ne_eqb}
-use Rattle.rules.specs.Tables.{Target}
-use Rattle.rules.specs.declared.Key.{Key}
-use Rattle.rules.specs.declared.Space.{Space}
-use Rattle.records.specs.Parsed.{got, bad, Reader, ◌⊗◌}
-use Rattle.records.specs.Fields.{space_field, key_field, use_fields}
-use Rattle.records.specs.Targets.{target_field, target_value}
-use Rattle.records.specs.Requests.{most_request, whole, request_fields, key_request_fields, read_request, read_key_request, request_read, key_request_read}
+use Rattle.std.specs.Prelude.{Some, None}
+use Rattle.rules.specs.Tables.{Request}
+use Rattle.rules.specs.KeyTables.{KeyRequest}
+use Rattle.records.specs.Parsed.{got, bad, Reader}
+use Rattle.records.specs.Requests.{most_request, held_as, whole, request_fields, key_request_fields, read_request, read_key_request}
 use Rattle.records.specs.declared.faults.Fault.{Fault}
-use Rattle.records.specs.declared.fields.Use.{Use}
-use Rattle.records.specs.declared.targets.Target.{Target as TargetValue}
-use Rattle.records.specs.declared.requests.RequestRead.TheVariants as as_request
-use Rattle.records.specs.declared.requests.KeyRequestRead.TheVariants as as_key_request
-use Rattle.records.proofs.ParsedLaws.{both_got, mapped_got}
+
+-- ---- code's answer
+module _ {A B : Type 0} (f : A → B) where
+  pub held : {p : Option A} {x : A} → p ≡ some x → Some (f x) ≡ held_as f p
+  held e = rw e
+
+  pub held_not : {p : Option A} → p ≡ none → None ≡ held_as f p
+  held_not e = rw e
 
 -- ---- from the first byte to the last
 module _ {A : Type 0} (P : Reader A) (s : List ℕ) where
@@ -35,49 +36,40 @@ module _ {A : Type 0} (P : Reader A) (s : List ℕ) where
 
 -- ---- a request
 module _ (spaces : ℕ) (s : List ℕ) where
-  pub request_not : (e : Fault) → length s ≤ most_request → request_fields spaces s 0 ≡ bad e → as_request.Not ≡ request_read (read_request spaces s)
+  pub request_long : most_request < length s → read_request spaces s ≡ none
   unfolding read_request
-  request_not e h g = ap request_read (sym (whole_bad (request_fields spaces) s most_request e h g))
+  request_long h = whole_long (request_fields spaces) s most_request h
 
-  pub request_long : most_request < length s → as_request.Not ≡ request_read (read_request spaces s)
-  unfolding read_request
-  request_long h = ap request_read (sym (whole_long (request_fields spaces) s most_request h))
-
-  module _ (v : TargetValue) (S : Space) (u : Use) (a b next : ℕ) (w : (g : Target) × (target_field spaces s 0 ≡ got g a) × (v ≡ target_value g)) (e : space_field spaces s a ≡ got S b)
-      (f : use_fields s b ≡ got (u.object, u.right) next) (h : length s ≤ most_request) where
-    request_read_lem : request_fields spaces s 0 ≡ got (record { subject = w.0; asked = record { owner = S; object = u.object; right = u.right } }) next
-    unfolding request_fields
-    request_read_lem = mapped_got _ _ _ _ (both_got (target_field spaces) (space_field spaces ⊗ use_fields) s 0 w.1 (both_got (space_field spaces) use_fields s a e f))
-
-    pub request_found : next ≡ length s → as_request.Request (record { subject = v; owner = S; wanted = u }) ≡ request_read (read_request spaces s)
+  module _ (h : length s ≤ most_request) where
+    pub request_not : (e : Fault) → request_fields spaces s 0 ≡ bad e → read_request spaces s ≡ none
     unfolding read_request
-    request_found q =
-        ap (λ (x : TargetValue). as_request.Request (record { subject = x; owner = S; wanted = u })) w.2
-        ∙ ap request_read (sym (whole_got (request_fields spaces) s most_request _ next h request_read_lem q))
+    request_not e g = whole_bad (request_fields spaces) s most_request e h g
 
-    pub request_more : (next ≡ length s → ⊥) → as_request.Not ≡ request_read (read_request spaces s)
-    unfolding read_request
-    request_more q = ap request_read (sym (whole_more (request_fields spaces) s most_request _ next h request_read_lem q))
+    module _ (r : Request) (next : ℕ) (is : request_fields spaces s 0 ≡ got r next) where
+      pub request_more : (next ≡ length s → ⊥) → read_request spaces s ≡ none
+      unfolding read_request
+      request_more q = whole_more (request_fields spaces) s most_request r next h is q
+
+      pub request_found : next ≡ length s → read_request spaces s ≡ some r
+      unfolding read_request
+      request_found q = whole_got (request_fields spaces) s most_request r next h is q
 
 -- ---- a key request
 module _ (s : List ℕ) where
-  pub key_request_not : (e : Fault) → length s ≤ most_request → key_request_fields s 0 ≡ bad e → as_key_request.Not ≡ key_request_read (read_key_request s)
+  pub key_request_long : most_request < length s → read_key_request s ≡ none
   unfolding read_key_request
-  key_request_not e h g = ap key_request_read (sym (whole_bad key_request_fields s most_request e h g))
+  key_request_long h = whole_long key_request_fields s most_request h
 
-  pub key_request_long : most_request < length s → as_key_request.Not ≡ key_request_read (read_key_request s)
-  unfolding read_key_request
-  key_request_long h = ap key_request_read (sym (whole_long key_request_fields s most_request h))
-
-  module _ (k l : Key) (u : Use) (a b next : ℕ) (d : key_field s 0 ≡ got k a) (e : key_field s a ≡ got l b) (f : use_fields s b ≡ got (u.object, u.right) next) (h : length s ≤ most_request) where
-    key_request_read_lem : key_request_fields s 0 ≡ got (record { subject = k; asked = record { owner = l; object = u.object; right = u.right } }) next
-    unfolding key_request_fields
-    key_request_read_lem = mapped_got _ _ _ _ (both_got key_field (key_field ⊗ use_fields) s 0 d (both_got key_field use_fields s a e f))
-
-    pub key_request_found : next ≡ length s → as_key_request.KeyRequest (record { subject = k; owner = l; wanted = u }) ≡ key_request_read (read_key_request s)
+  module _ (h : length s ≤ most_request) where
+    pub key_request_not : (e : Fault) → key_request_fields s 0 ≡ bad e → read_key_request s ≡ none
     unfolding read_key_request
-    key_request_found q = ap key_request_read (sym (whole_got key_request_fields s most_request _ next h key_request_read_lem q))
+    key_request_not e g = whole_bad key_request_fields s most_request e h g
 
-    pub key_request_more : (next ≡ length s → ⊥) → as_key_request.Not ≡ key_request_read (read_key_request s)
-    unfolding read_key_request
-    key_request_more q = ap key_request_read (sym (whole_more key_request_fields s most_request _ next h key_request_read_lem q))
+    module _ (r : KeyRequest) (next : ℕ) (is : key_request_fields s 0 ≡ got r next) where
+      pub key_request_more : (next ≡ length s → ⊥) → read_key_request s ≡ none
+      unfolding read_key_request
+      key_request_more q = whole_more key_request_fields s most_request r next h is q
+
+      pub key_request_found : next ≡ length s → read_key_request s ≡ some r
+      unfolding read_key_request
+      key_request_found q = whole_got key_request_fields s most_request r next h is q

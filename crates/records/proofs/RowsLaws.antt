@@ -9,6 +9,7 @@ use lib.Dec.{eqb, ltb}
 use lib.ListN.{length, get_or, set, take, drop, length-take, length-drop, length-set}
 use lib.Seq.{drop-cons, length-take-le, get_or-take, get_or-drop, get_or-set_same, get_or-set_other}
 use borrow.Author.Tests.{eq-eqb, ne_eqb, ltb-true, ltb-false}
+use Rattle.std.specs.Prelude.{Option, Some, None, is_some, MatchOption}
 use Rattle.rules.specs.Choice.{pick}
 use Rattle.records.specs.Rows.{is_among, Passed, First, marks, mark_of, Marked}
 
@@ -40,12 +41,9 @@ unfolding is_among
 among_nowhere [] n o = refl
 among_nowhere (m ∷ l) n o = rw (ne_eqb m n (o 0 (omega arith))) (among_nowhere l n (λ i h. o (suc i) (omega arith)))
 
-pub first_among : (l : List ℕ) (n i : ℕ) → First l n i → ltb i (length l) ≡ is_among l n
-first_among l n i f = go (ltb i (length l)) refl
-  where
-    go : (b : Bool) → ltb i (length l) ≡ b → b ≡ is_among l n
-    go true e = sym (among_here l n i (ltb-true i (length l) e) (f.here (ltb-true i (length l) e)))
-    go false e = sym (among_nowhere l n (λ j h. f.passed.others j (omega (arith, ltb-false i (length l) e))))
+pub first_among : (l : List ℕ) (n : ℕ) (r : Option ℕ) → MatchOption r (Passed l n (length l)) (λ at. First l n at) → is_some r ≡ is_among l n
+first_among l n None p = sym (among_nowhere l n p.others)
+first_among l n (Some i) f = sym (among_here l n i f.there f.here)
 
 -- ---- eight at once
 eight : (a b c d e f g h : Bool) → (((((((a || b) || c) || d) || e) || f) || g) || h) ≡ (a || (b || (c || (d || (e || (f || (g || (h || false))))))))

@@ -2,12 +2,10 @@
 use Rattle.std.specs.Prelude.{List, ◌++◌, ℕ}
 use Rattle.rules.specs.Tables.{AccessRecord}
 use Rattle.wire.specs.Number.{bytes_of}
-use Rattle.records.specs.Parsed.{Parsed, got, bad, Reader, ◌⊗◌, mapped}
+use Rattle.records.specs.Parsed.{Reader, ◌⊗◌, mapped}
 use Rattle.records.specs.Fields.{space_field, use_fields, depth_field}
 use Rattle.records.specs.Paths.{path_field, path_bytes, path_value}
 use Rattle.records.specs.declared.accesses.Access.{Access}
-use Rattle.records.specs.declared.accesses.AccessRead.{AccessRead}
-use Rattle.records.specs.declared.accesses.AccessRead.TheVariants as as_access
 
 unfoldable pub access_record : ℕ → Reader AccessRecord
 access_record spaces =
@@ -21,7 +19,3 @@ access_bytes x = bytes_of x.owner.0 ++ ((bytes_of x.object ++ bytes_of x.right) 
 -- ---- as code holds it
 abbrev pub access_value : AccessRecord → Access
 access_value x = record { owner = x.owner; wanted = record { object = x.object; right = x.right }; path = path_value x.path; depth = record { 0 = x.depth } }
-
-abbrev pub access_read : Parsed AccessRecord → AccessRead
-access_read (got x at) = as_access.Access (access_value x) at
-access_read (bad e) = as_access.Fault e

@@ -5,13 +5,11 @@ use Rattle.rules.specs.Ranges.{most_base}
 use Rattle.rules.specs.Tables.{Binding}
 use Rattle.rules.specs.declared.Space.{Space}
 use Rattle.wire.specs.Number.{bytes_of}
-use Rattle.records.specs.Parsed.{Parsed, got, bad, Reader, fault_at, ◌⟫◌}
+use Rattle.records.specs.Parsed.{got, bad, Reader, fault_at, ◌⟫◌}
 use Rattle.records.specs.Fields.{field, space_field}
 use Rattle.records.specs.Targets.{target_field, target_bytes, target_value}
 use Rattle.records.specs.declared.faults.Kind.TheVariants as kind
 use Rattle.records.specs.declared.bindings.Binding.{Binding as BindingValue}
-use Rattle.records.specs.declared.bindings.BindingRead.{BindingRead}
-use Rattle.records.specs.declared.bindings.BindingRead.TheVariants as as_binding
 
 -- Twice points at a base name that is bound in its space already, before any fault of the target.
 unfoldable pub binding_record : ℕ → (Space → ℕ → Bool) → Reader Binding
@@ -33,10 +31,6 @@ binding_bytes x = bytes_of x.space.0 ++ (bytes_of x.base ++ target_bytes x.targe
 -- ---- as code holds it; and the name that it binds, as one number
 abbrev pub binding_value : Binding → BindingValue
 binding_value x = record { space = x.space; base = x.base; target = target_value x.target }
-
-abbrev pub binding_read : Parsed Binding → BindingRead
-binding_read (got x at) = as_binding.Binding (binding_value x) at
-binding_read (bad e) = as_binding.Fault e
 
 abbrev pub packed : Space → ℕ → ℕ
 packed S b = S.0 * 65536 + b

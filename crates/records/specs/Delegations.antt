@@ -2,12 +2,10 @@
 use Rattle.std.specs.Prelude.{List, ◌++◌, ℕ}
 use Rattle.rules.specs.Tables.{Delegation}
 use Rattle.wire.specs.Number.{bytes_of}
-use Rattle.records.specs.Parsed.{Parsed, got, bad, Reader, ◌⊗◌, mapped}
+use Rattle.records.specs.Parsed.{Reader, ◌⊗◌, mapped}
 use Rattle.records.specs.Fields.{space_field, use_fields, depth_field}
 use Rattle.records.specs.Paths.{path_field, path_bytes, path_value}
 use Rattle.records.specs.declared.delegations.Delegation.{Delegation as DelegationValue}
-use Rattle.records.specs.declared.delegations.DelegationRead.{DelegationRead}
-use Rattle.records.specs.declared.delegations.DelegationRead.TheVariants as as_delegation
 
 unfoldable pub delegation_record : ℕ → Reader Delegation
 delegation_record spaces =
@@ -30,7 +28,3 @@ delegation_value x = record {
   delegatee = path_value x.delegatee_path;
   depth = record { 0 = x.depth };
 }
-
-abbrev pub delegation_read : Parsed Delegation → DelegationRead
-delegation_read (got x at) = as_delegation.Delegation (delegation_value x) at
-delegation_read (bad e) = as_delegation.Fault e

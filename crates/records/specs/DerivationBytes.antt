@@ -1,7 +1,7 @@
 -- Derivation: count of binding numbers, these numbers, none twice; count of the chain (1 to 16), one access record number, then delegation numbers.
 -- At most 512 bytes.
 use Rattle.std.specs.Prelude.{List, [], ◌++◌, ℕ, suc, ◌-◌, ◌<◌, ◌≤◌, length}
-use Rattle.std.proofs.Math.Option.{Option, none, some}
+use Rattle.std.proofs.Math.Option.{Option}
 use Rattle.rules.specs.Choice.{pick}
 use Rattle.rules.specs.Lists.{At, NoneTwice}
 use Rattle.rules.specs.Depths.{top}
@@ -15,8 +15,6 @@ use Rattle.records.specs.Many.{many, many_bytes}
 use Rattle.records.specs.Requests.{whole}
 use Rattle.records.specs.declared.faults.Kind.TheVariants as kind
 use Rattle.records.specs.declared.derivations.Parts.{Parts}
-use Rattle.records.specs.declared.derivations.DerivationRead.{DerivationRead}
-use Rattle.records.specs.declared.derivations.DerivationRead.TheVariants as as_derivation
 
 abbrev pub most_derivation : ℕ
 most_derivation = 512
@@ -66,7 +64,3 @@ derivation_bytes v = (bytes_of (length v.bindings) ++ many_bytes bytes_of v.bind
 -- ---- as code answers
 abbrev pub parts_of : Laid → Parts
 parts_of l = record { bindings = length l.derivation.bindings; first = l.first; delegations = length l.derivation.delegations; chain = l.chain }
-
-abbrev pub derivation_read : Option Laid → DerivationRead
-derivation_read none = as_derivation.Not
-derivation_read (some l) = as_derivation.Derivation (parts_of l)

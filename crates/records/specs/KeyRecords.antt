@@ -2,14 +2,10 @@
 use Rattle.std.specs.Prelude.{List, ◌++◌, ℕ}
 use Rattle.rules.specs.KeyTables.{KeyAccess, KeyDelegation}
 use Rattle.wire.specs.Number.{bytes_of}
-use Rattle.records.specs.Parsed.{Parsed, got, bad, Reader, ◌⊗◌, mapped}
+use Rattle.records.specs.Parsed.{Reader, ◌⊗◌, mapped}
 use Rattle.records.specs.Fields.{key_field, use_fields, depth_field}
 use Rattle.records.specs.declared.keys.KeyAccess.{KeyAccess as KeyAccessValue}
-use Rattle.records.specs.declared.keys.KeyAccessRead.{KeyAccessRead}
-use Rattle.records.specs.declared.keys.KeyAccessRead.TheVariants as as_access
 use Rattle.records.specs.declared.keys.KeyDelegation.{KeyDelegation as KeyDelegationValue}
-use Rattle.records.specs.declared.keys.KeyDelegationRead.{KeyDelegationRead}
-use Rattle.records.specs.declared.keys.KeyDelegationRead.TheVariants as as_delegation
 
 unfoldable pub key_access_record : Reader KeyAccess
 key_access_record =
@@ -35,10 +31,6 @@ key_access_value x = record { owner = x.owner; wanted = record { object = x.obje
 abbrev pub key_access_of : KeyAccessValue → KeyAccess
 key_access_of x = record { owner = x.owner; object = x.wanted.object; right = x.wanted.right; subject = x.subject; depth = x.depth.0 }
 
-abbrev pub key_access_read : Parsed KeyAccess → KeyAccessRead
-key_access_read (got x at) = as_access.KeyAccess (key_access_value x) at
-key_access_read (bad e) = as_access.Fault e
-
 abbrev pub key_delegation_value : KeyDelegation → KeyDelegationValue
 key_delegation_value x = record {
   writer = x.writer;
@@ -50,7 +42,3 @@ key_delegation_value x = record {
 
 abbrev pub key_delegation_of : KeyDelegationValue → KeyDelegation
 key_delegation_of x = record { writer = x.writer; owner = x.owner; object = x.wanted.object; right = x.wanted.right; delegatee = x.delegatee; depth = x.depth.0 }
-
-abbrev pub key_delegation_read : Parsed KeyDelegation → KeyDelegationRead
-key_delegation_read (got x at) = as_delegation.KeyDelegation (key_delegation_value x) at
-key_delegation_read (bad e) = as_delegation.Fault e

@@ -8,7 +8,7 @@ pub mod Bindings
 pub mod Accesses
 pub mod Delegations
 pub mod KeyRecords
+pub mod Kinds
 pub mod Requests
 pub mod DerivationBytes
-pub mod Numbers
 pub mod Passing

@@ -1,5 +1,5 @@
 -- What reading finds: a value with the place after it, or a fault with its place. Readers that follow one another.
-use Rattle.std.specs.Prelude.{List, ℕ, ◌+◌}
+use Rattle.std.specs.Prelude.{List, ℕ, ◌+◌, Option, Some, None, Result, Ok, Err}
 use Rattle.records.specs.declared.faults.Kind.{Kind}
 use Rattle.records.specs.declared.faults.Fault.{Fault}
 
@@ -36,3 +36,23 @@ moved_fault by e = record { kind = e.kind; place = record { offset = by + e.plac
 abbrev pub moved_by : {A : Type 0} → ℕ → Parsed A → Parsed A
 moved_by by (got x at) = got x (by + at)
 moved_by by (bad e) = bad (moved_fault by e)
+
+-- ---- as code answers
+-- What is found, as code holds it, with the place after it; or the fault.
+abbrev pub found_as : {A B : Type 0} → (A → B) → Parsed A → Result (B × ℕ) Fault
+found_as f (got x at) = Ok (f x, at)
+found_as f (bad e) = Err e
+
+-- What code holds as it is.
+abbrev pub found : {A : Type 0} → Parsed A → Result (A × ℕ) Fault
+found = found_as (λ x. x)
+
+-- The place after what is found; or the fault.
+abbrev pub after : {A : Type 0} → Parsed A → Result ℕ Fault
+after (got x at) = Ok at
+after (bad e) = Err e
+
+-- The place after what is found, where its fault is not told.
+abbrev pub place_after : {A : Type 0} → Parsed A → Option ℕ
+place_after (got x at) = Some at
+place_after (bad e) = None

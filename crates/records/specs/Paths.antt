@@ -3,13 +3,9 @@ use Rattle.std.specs.Prelude.{List, [], ◌∷◌, ◌++◌, ℕ, zero, suc, len
 use Rattle.rules.specs.Ranges.{most_names, most_base}
 use Rattle.rules.specs.Tables.{Path}
 use Rattle.wire.specs.Number.{bytes_of}
-use Rattle.records.specs.Parsed.{Parsed, got, bad, Reader, fault_at, ◌⟫◌}
+use Rattle.records.specs.Parsed.{got, Reader, ◌⟫◌}
 use Rattle.records.specs.Fields.{field}
-use Rattle.records.specs.declared.faults.Kind.TheVariants as kind
-use Rattle.records.specs.declared.faults.Fault.{Fault}
 use Rattle.records.specs.declared.paths.Path.{Path as PathValue}
-use Rattle.records.specs.declared.paths.PathRead.{PathRead}
-use Rattle.records.specs.declared.paths.PathRead.TheVariants as as_path
 
 unfoldable pub names_from : ℕ → Reader Path
 names_from zero s at = got [] at
@@ -32,11 +28,3 @@ path_value p = record { length = length p; first = get_or p 0 0; second = get_or
 
 abbrev pub path_of : PathValue → Path
 path_of p = take p.length (p.first ∷ p.second ∷ p.third ∷ p.fourth ∷ [])
-
-abbrev pub path_read : Parsed Path → PathRead
-path_read (got p at) = as_path.Path (path_value p) at
-path_read (bad e) = as_path.Fault e
-
-abbrev pub path_fault : PathRead → Fault
-path_fault (as_path.Path p at) = fault_at kind.Range 0
-path_fault (as_path.Fault e) = e

@@ -1,5 +1,5 @@
 -- Request: target (the subject), owner space number, object, right; at most 64 bytes. Key request: subject key, owner key, object, right; at most 64 bytes.
-use Rattle.std.specs.Prelude.{List, ◌++◌, ℕ, eqb, leb, length}
+use Rattle.std.specs.Prelude.{List, ◌++◌, ℕ, eqb, leb, length, Option as Answer, Some, None}
 use Rattle.std.proofs.Math.Option.{Option, none, some}
 use Rattle.rules.specs.Choice.{pick}
 use Rattle.rules.specs.Tables.{Request}
@@ -9,11 +9,7 @@ use Rattle.records.specs.Parsed.{Parsed, got, bad, Reader, ◌⊗◌, mapped}
 use Rattle.records.specs.Fields.{space_field, key_field, use_fields}
 use Rattle.records.specs.Targets.{target_field, target_bytes, target_value}
 use Rattle.records.specs.declared.requests.Request.{Request as RequestValue}
-use Rattle.records.specs.declared.requests.RequestRead.{RequestRead}
-use Rattle.records.specs.declared.requests.RequestRead.TheVariants as as_request
 use Rattle.records.specs.declared.requests.KeyRequest.{KeyRequest as KeyRequestValue}
-use Rattle.records.specs.declared.requests.KeyRequestRead.{KeyRequestRead}
-use Rattle.records.specs.declared.requests.KeyRequestRead.TheVariants as as_key_request
 
 abbrev pub most_request : ℕ
 most_request = 64
@@ -32,6 +28,11 @@ request_fields spaces =
 
 unfoldable pub key_request_fields : Reader KeyRequest
 key_request_fields = mapped (λ w. record { subject = w.0; asked = record { owner = w.1.0; object = w.1.1.0; right = w.1.1.1 } }) (key_field ⊗ key_field ⊗ use_fields)
+
+-- As code answers: what there is, as code holds it.
+abbrev pub held_as : {A B : Type 0} → (A → B) → Option A → Answer B
+held_as f none = None
+held_as f (some x) = Some (f x)
 
 -- THE REQUEST that the bytes hold, against a table with so many spaces, or nothing.
 unfoldable pub read_request : ℕ → List ℕ → Option Request
@@ -52,13 +53,5 @@ key_request_bytes r = bytes_of r.subject.0 ++ (bytes_of r.asked.owner.0 ++ (byte
 abbrev pub request_value : Request → RequestValue
 request_value r = record { subject = target_value r.subject; owner = r.asked.owner; wanted = record { object = r.asked.object; right = r.asked.right } }
 
-abbrev pub request_read : Option Request → RequestRead
-request_read none = as_request.Not
-request_read (some r) = as_request.Request (request_value r)
-
 abbrev pub key_request_value : KeyRequest → KeyRequestValue
 key_request_value r = record { subject = r.subject; owner = r.asked.owner; wanted = record { object = r.asked.object; right = r.asked.right } }
-
-abbrev pub key_request_read : Option KeyRequest → KeyRequestRead
-key_request_read none = as_key_request.Not
-key_request_read (some r) = as_key_request.KeyRequest (key_request_value r)

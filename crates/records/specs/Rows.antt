@@ -11,10 +11,11 @@ pub record Passed (l : List ℕ) (n i : ℕ) : Type 0 where
   pub most : i ≤ length l
   pub others : (j : ℕ) → j < i → get_or l j 0 ≡ n → ⊥
 
--- Number `i` of the row is the first that is it; or there is none, and `i` is the row's length.
+-- Number `i` of the row is the first that is it.
 pub record First (l : List ℕ) (n i : ℕ) : Type 0 where
   pub passed : Passed l n i
-  pub here : i < length l → get_or l i 0 ≡ n
+  pub there : i < length l
+  pub here : get_or l i 0 ≡ n
 
 -- ---- marks, so that a number is looked for only where one that shares its mark stands
 abbrev pub marks : ℕ

@@ -3,15 +3,11 @@ use Rattle.std.specs.Prelude.{List, ◌++◌, ℕ, eqb}
 use Rattle.rules.specs.Choice.{pick}
 use Rattle.rules.specs.Tables.{Target, to_key, to_name}
 use Rattle.wire.specs.Number.{bytes_of}
-use Rattle.records.specs.Parsed.{Parsed, got, bad, Reader, fault_at, ◌⟫◌, ◌⊗◌, mapped}
+use Rattle.records.specs.Parsed.{Reader, ◌⟫◌, ◌⊗◌, mapped}
 use Rattle.records.specs.Fields.{field, space_field, key_field}
 use Rattle.records.specs.Paths.{path_field, path_bytes, path_value, path_of}
-use Rattle.records.specs.declared.faults.Kind.TheVariants as kind
-use Rattle.records.specs.declared.faults.Fault.{Fault}
 use Rattle.records.specs.declared.targets.Target.{Target as TargetValue}
 use Rattle.records.specs.declared.targets.Target.TheVariants as as_target
-use Rattle.records.specs.declared.targets.TargetRead.{TargetRead}
-use Rattle.records.specs.declared.targets.TargetRead.TheVariants as as_read
 
 unfoldable pub name_fields : ℕ → Reader Target
 name_fields spaces = mapped (λ w. to_name w.0 w.1) (space_field spaces ⊗ path_field)
@@ -32,11 +28,3 @@ target_value (to_name S p) = as_target.Name S (path_value p)
 abbrev pub target_of : TargetValue → Target
 target_of (as_target.Key k) = to_key k
 target_of (as_target.Name S p) = to_name S (path_of p)
-
-abbrev pub target_read : Parsed Target → TargetRead
-target_read (got g at) = as_read.Target (target_value g) at
-target_read (bad e) = as_read.Fault e
-
-abbrev pub target_fault : TargetRead → Fault
-target_fault (as_read.Target g at) = fault_at kind.Range 0
-target_fault (as_read.Fault e) = e

@@ -1,16 +1,14 @@
 // Access records: the owner, what it is for, a path and a depth.
 ghost use Rattle.std.specs.Prelude.{◌≡◌};
-ghost use Rattle.records.specs.Accesses.{access_record, access_read};
+ghost use Rattle.records.specs.Parsed.{found_as};
+ghost use Rattle.records.specs.Accesses.{access_record, access_value};
 
 use crate::faults::Fault;
-use crate::fields::{
-    DepthRead, SpaceRead, Use, UseRead, depth_fault, read_depth, read_space, read_use, space_fault,
-    use_fault,
-};
-use crate::paths::{Path, PathRead, path_fault, read_path};
+use crate::fields::{Use, read_depth, read_space, read_use};
+use crate::paths::{Path, read_path};
 use rules::{Depth, Space};
 
-#[derive(Clone, Copy)]
+#[derive(Clone, Copy, PartialEq, Eq)]
 pub struct Access {
     pub owner: Space,
     pub wanted: Use,
@@ -18,33 +16,15 @@ pub struct Access {
     pub depth: Depth,
 }
 
-#[derive(Clone, Copy)]
-pub enum AccessRead {
-    Access(Access, usize),
-    Fault(Fault),
-}
-
 // The access record that `rest` begins with.
-pub fn read_access(rest: &[u8], spaces: usize) -> AccessRead
-    ensures { result ≡ access_read (access_record spaces rest.now 0) }
+pub fn read_access(rest: &[u8], spaces: usize) -> Result<(Access, usize), Fault>
+    ensures { result ≡ found_as access_value (access_record spaces rest.now 0) }
 {
-    let first = read_space(rest, 0, spaces);
-    let SpaceRead::Space(owner, at1) = first else {
-        return AccessRead::Fault(space_fault(first));
-    };
-    let second = read_use(rest, at1);
-    let UseRead::Use(wanted, at2) = second else {
-        return AccessRead::Fault(use_fault(second));
-    };
-    let third = read_path(rest, at2);
-    let PathRead::Path(path, at3) = third else {
-        return AccessRead::Fault(path_fault(third));
-    };
-    let fourth = read_depth(rest, at3);
-    let DepthRead::Depth(depth, next) = fourth else {
-        return AccessRead::Fault(depth_fault(fourth));
-    };
-    AccessRead::Access(
+    let (owner, at1) = read_space(rest, 0, spaces)?;
+    let (wanted, at2) = read_use(rest, at1)?;
+    let (path, at3) = read_path(rest, at2)?;
+    let (depth, next) = read_depth(rest, at3)?;
+    Ok((
         Access {
             owner,
             wanted,
@@ -52,5 +32,5 @@ pub fn read_access(rest: &[u8], spaces: usize) -> AccessRead
             depth,
         },
         next,
-    )
+    ))
 }

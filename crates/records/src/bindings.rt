@@ -1,27 +1,20 @@
 // Bindings: a space number, a base name and a target.
 ghost use Rattle.std.specs.Prelude.{◌≡◌, ◌+◌, ◌*◌, ◌<◌, ◌≤◌};
-ghost use Rattle.records.specs.Bindings.{binding_record, binding_read, packed};
+ghost use Rattle.records.specs.Parsed.{found_as};
+ghost use Rattle.records.specs.Bindings.{binding_record, binding_value, packed};
 ghost use Rattle.records.specs.Rows.{is_among};
 
 use crate::faults::{Fault, Kind, fault_at};
-use crate::fields::{
-    Field, MOST_BASE, SpaceRead, field_fault, read_field, read_space, space_fault,
-};
+use crate::fields::{MOST_BASE, read_field, read_space};
 use crate::rows::is_among;
-use crate::targets::{Target, TargetRead, read_target, target_fault};
+use crate::targets::{Target, read_target};
 use rules::Space;
 
-#[derive(Clone, Copy)]
+#[derive(Clone, Copy, PartialEq, Eq)]
 pub struct Binding {
     pub space: Space,
     pub base: u32,
     pub target: Target,
-}
-
-#[derive(Clone, Copy)]
-pub enum BindingRead {
-    Binding(Binding, usize),
-    Fault(Fault),
 }
 
 // A space and a base name as one number.
@@ -33,31 +26,22 @@ pub fn pack(space: Space, base: u32) -> u32
 }
 
 // The binding that `rest` begins with; `earlier` are the names that are bound already, packed.
-pub fn read_binding(rest: &[u8], spaces: usize, earlier: &[u32]) -> BindingRead
+pub fn read_binding(rest: &[u8], spaces: usize, earlier: &[u32]) -> Result<(Binding, usize), Fault>
     requires { spaces ≤ 64 }
-    ensures { result ≡ binding_read (binding_record spaces (λ S b. is_among earlier.now (packed S b)) rest.now 0) }
+    ensures { result ≡ found_as binding_value (binding_record spaces (λ S b. is_among earlier.now (packed S b)) rest.now 0) }
 {
-    let home = read_space(rest, 0, spaces);
-    let SpaceRead::Space(space, at1) = home else {
-        return BindingRead::Fault(space_fault(home));
-    };
-    let name = read_field(rest, at1, 1, MOST_BASE);
-    let Field::Value(base, at2) = name else {
-        return BindingRead::Fault(field_fault(name));
-    };
+    let (space, at1) = read_space(rest, 0, spaces)?;
+    let (base, at2) = read_field(rest, at1, 1, MOST_BASE)?;
     if is_among(earlier, pack(space, base)) {
-        return BindingRead::Fault(fault_at(Kind::Twice, at1));
+        return Err(fault_at(Kind::Twice, at1));
     }
-    let found = read_target(rest, at2, spaces);
-    let TargetRead::Target(target, next) = found else {
-        return BindingRead::Fault(target_fault(found));
-    };
-    BindingRead::Binding(
+    let (target, next) = read_target(rest, at2, spaces)?;
+    Ok((
         Binding {
             space,
             base,
             target,
         },
         next,
-    )
+    ))
 }

@@ -4,18 +4,19 @@ ghost use Rattle.rules.specs.Depths.{top};
 ghost use Rattle.rules.specs.Ranges.{most_bindings};
 ghost use Rattle.wire.specs.Number.{bytes_of};
 ghost use Rattle.wire.specs.Placed.{placed};
+ghost use Rattle.records.specs.Parsed.{place_after};
+ghost use Rattle.records.specs.Requests.{held_as};
 ghost use Rattle.records.specs.Many.{many, many_bytes};
-ghost use Rattle.records.specs.DerivationBytes.{listed_number, chain_number, read_derivation, derivation_read, derivation_bytes};
-ghost use Rattle.records.specs.Numbers.{numbers_read};
+ghost use Rattle.records.specs.DerivationBytes.{listed_number, chain_number, read_derivation, parts_of, derivation_bytes};
 
-use crate::fields::{Field, read_field};
+use crate::fields::read_field;
 
 pub const MOST_DERIVATION: usize = 512;
 
 pub const MOST_CHAIN: u32 = 16;
 
 // How many bindings it lists and where their numbers begin; how many delegations its chain has and where the number of its access record stands.
-#[derive(Clone, Copy)]
+#[derive(Clone, Copy, PartialEq, Eq)]
 pub struct Parts {
     pub bindings: usize,
     pub first: usize,
@@ -23,96 +24,59 @@ pub struct Parts {
     pub chain: usize,
 }
 
-#[derive(Clone, Copy)]
-pub enum DerivationRead {
-    Derivation(Parts),
-    Not,
-}
-
-// The place after numbers that were read, or none.
-#[derive(Clone, Copy)]
-pub enum Numbers {
-    After(usize),
-    Not,
-}
-
-// So many binding numbers from a place on, none of them twice.
-fn read_listed(s: &[u8], from: usize, count: usize) -> Numbers
-    ensures { result ≡ numbers_read (many listed_number count [] s.now from) }
+// The place after so many binding numbers from a place on, none of them twice.
+fn read_listed(s: &[u8], from: usize, count: usize) -> Option<usize>
+    ensures { result ≡ place_after (many listed_number count [] s.now from) }
 {
     let mut seen = [false; 256];
     let mut at = from;
-    let mut i = 0;
-    while i < count {
-        let number = read_field(s, at, 0, 255);
-        let Field::Value(value, next) = number else {
-            return Numbers::Not;
-        };
+    for _ in 0..count {
+        let (value, next) = read_field(s, at, 0, 255).ok()?;
         let which = value as usize;
         if seen[which] {
-            return Numbers::Not;
+            return None;
         }
         seen[which] = true;
         at = next;
-        i = i + 1;
     }
-    Numbers::After(at)
+    Some(at)
 }
 
-// So many delegation numbers from a place on.
-fn read_chain(s: &[u8], from: usize, count: usize) -> Numbers
-    ensures { result ≡ numbers_read (many chain_number count [] s.now from) }
+// The place after so many delegation numbers from a place on.
+fn read_chain(s: &[u8], from: usize, count: usize) -> Option<usize>
+    ensures { result ≡ place_after (many chain_number count [] s.now from) }
 {
     let mut at = from;
-    let mut i = 0;
-    while i < count {
-        let number = read_field(s, at, 0, 511);
-        let Field::Value(_, next) = number else {
-            return Numbers::Not;
-        };
+    for _ in 0..count {
+        let (_, next) = read_field(s, at, 0, 511).ok()?;
         at = next;
-        i = i + 1;
     }
-    Numbers::After(at)
+    Some(at)
 }
 
 // The derivation that the bytes hold.
-pub fn read_derivation(bytes: &[u8]) -> DerivationRead
-    ensures { result ≡ derivation_read (read_derivation bytes.now) }
+pub fn read_derivation(bytes: &[u8]) -> Option<Parts>
+    ensures { result ≡ held_as parts_of (read_derivation bytes.now) }
 {
     if MOST_DERIVATION < bytes.len() {
-        return DerivationRead::Not;
+        return None;
     }
-    let count = read_field(bytes, 0, 0, 256);
-    let Field::Value(bindings, first) = count else {
-        return DerivationRead::Not;
-    };
-    let listed = read_listed(bytes, first, bindings as usize);
-    let Numbers::After(at) = listed else {
-        return DerivationRead::Not;
-    };
-    let length = read_field(bytes, at, 1, MOST_CHAIN);
-    let Field::Value(records, chain) = length else {
-        return DerivationRead::Not;
-    };
-    let access = read_field(bytes, chain, 0, 255);
-    let Field::Value(_, from) = access else {
-        return DerivationRead::Not;
-    };
+    let (count, first) = read_field(bytes, 0, 0, 256).ok()?;
+    let bindings = count as usize;
+    let at = read_listed(bytes, first, bindings)?;
+    let (records, chain) = read_field(bytes, at, 1, MOST_CHAIN).ok()?;
+    let (_, from) = read_field(bytes, chain, 0, 255).ok()?;
     let delegations = records as usize - 1;
-    let rest = read_chain(bytes, from, delegations);
-    let Numbers::After(end) = rest else {
-        return DerivationRead::Not;
-    };
-    if end == bytes.len() {
-        return DerivationRead::Derivation(Parts {
-            bindings: bindings as usize,
-            first,
-            delegations,
-            chain,
-        });
+    let end = read_chain(bytes, from, delegations)?;
+    if end != bytes.len() {
+        return None;
     }
-    DerivationRead::Not
+    Some(Parts {
+        bindings,
+        first,
+        delegations,
+        chain,
+    })
 }
 
 // Writes the numbers one behind the other from the place `from` on, and returns the place after them.
@@ -121,10 +85,8 @@ fn put_numbers(out: &mut [u8], from: usize, numbers: &[u16]) -> usize
     ensures { (result ≡ from + length (many_bytes bytes_of numbers.now)) × (out.new ≡ placed out.old from (many_bytes bytes_of numbers.now)) }
 {
     let mut at = from;
-    let mut i = 0;
-    while i < numbers.len() {
-        at = wire::put(out, at, wide(numbers[i]));
-        i = i + 1;
+    for &number in numbers {
+        at = wire::put(out, at, u32::from(number));
     }
     at
 }
@@ -141,10 +103,4 @@ pub fn write_derivation(out: &mut [u8], bindings: &[u16], access: u32, delegatio
     let at3 = wire::put(out, at2, delegations.len() as u32 + 1);
     let at4 = wire::put(out, at3, access);
     put_numbers(out, at4, delegations)
-}
-
-fn wide(number: u16) -> u32
-    ensures { result ≡ number }
-{
-    number as u32
 }

@@ -1,6 +1,5 @@
-// Records passed over: where one is good, the place after it; 0 where it is left to its reader. Each number is seen at a glance.
-ghost use Rattle.std.specs.Prelude.{◌≡◌, ◌≤◌};
-ghost use Rattle.rules.specs.Choice.{pick};
+// Records passed over: where one is good, the place after it; nothing where it is left to its reader. Each number is seen at a glance.
+ghost use Rattle.std.specs.Prelude.{◌≡◌, ◌≤◌, IfSome};
 ghost use Rattle.records.specs.Parsed.{◌⊗◌};
 ghost use Rattle.records.specs.Fields.{space_field, key_field, depth_field, use_fields};
 ghost use Rattle.records.specs.Paths.{names_from, path_field};
@@ -10,232 +9,149 @@ ghost use Rattle.records.specs.Delegations.{delegation_record};
 ghost use Rattle.records.specs.KeyRecords.{key_access_record, key_delegation_record};
 ghost use Rattle.records.specs.Passing.{Passes, PassesBinding, Sifts, is_for};
 
-use crate::fields::{glance_base, glance_key, glance_length, glance_object, glance_right};
-use wire::glancing::{Glance, glance_at, nothing};
+use crate::fields::{Use, glance_base, glance_key, glance_length, glance_object, glance_right};
+use rules::Key;
+use wire::glancing::glance_at;
 
 // A key.
-fn pass_key(s: &[u8], at: usize) -> usize
-    ensures { Passes key_field s.now at result }
+fn pass_key(s: &[u8], at: usize) -> Option<usize>
+    ensures { IfSome result (λ next. Passes key_field s.now at next) }
 {
-    let key = glance_key(s, at);
-    key.next
+    let (_, next) = glance_key(s, at)?;
+    Some(next)
 }
 
 // A space number below the count of spaces.
-fn pass_space(s: &[u8], at: usize, spaces: usize) -> usize
-    ensures { Passes (space_field spaces) s.now at result }
+fn pass_space(s: &[u8], at: usize, spaces: usize) -> Option<usize>
+    ensures { IfSome result (λ next. Passes (space_field spaces) s.now at next) }
 {
-    let space = glance_at(s, at, 0, 0, 127);
-    if spaces <= space.value as usize {
-        return 0;
+    let (space, next) = glance_at(s, at, 0, 0, 127)?;
+    if spaces <= space as usize {
+        return None;
     }
-    space.next
+    Some(next)
 }
 
 // A depth.
-fn pass_depth(s: &[u8], at: usize) -> usize
-    ensures { Passes depth_field s.now at result }
+fn pass_depth(s: &[u8], at: usize) -> Option<usize>
+    ensures { IfSome result (λ next. Passes depth_field s.now at next) }
 {
-    let depth = glance_at(s, at, 0, 0, 15);
-    depth.next
+    let (_, next) = glance_at(s, at, 0, 0, 15)?;
+    Some(next)
 }
 
 // An object and a right.
-fn pass_use(s: &[u8], at: usize) -> usize
-    ensures { Passes use_fields s.now at result }
+fn pass_use(s: &[u8], at: usize) -> Option<usize>
+    ensures { IfSome result (λ next. Passes use_fields s.now at next) }
 {
-    let object = glance_object(s, at);
-    let middle = object.next;
-    if middle == 0 {
-        return 0;
-    }
-    let right = glance_right(s, middle);
-    right.next
+    let (_, middle) = glance_object(s, at)?;
+    let (_, next) = glance_right(s, middle)?;
+    Some(next)
 }
 
 // So many base names from a place on.
-fn pass_names(s: &[u8], from: usize, count: u32) -> usize
-    ensures { Passes (names_from count) s.now from result }
+fn pass_names(s: &[u8], from: usize, count: u32) -> Option<usize>
+    ensures { IfSome result (λ next. Passes (names_from count) s.now from next) }
 {
     let mut at = from;
-    let mut i = 0;
-    while i < count {
-        let name = glance_base(s, at);
-        at = name.next;
-        if at == 0 {
-            return 0;
-        }
-        i = i + 1;
+    for _ in 0..count {
+        let (_, next) = glance_base(s, at)?;
+        at = next;
     }
-    at
+    Some(at)
 }
 
 // A path: its length, and so many base names.
-fn pass_path(s: &[u8], at: usize) -> usize
-    ensures { Passes path_field s.now at result }
+fn pass_path(s: &[u8], at: usize) -> Option<usize>
+    ensures { IfSome result (λ next. Passes path_field s.now at next) }
 {
-    let length = glance_length(s, at);
-    let first = length.next;
-    if first == 0 {
-        return 0;
-    }
-    pass_names(s, first, length.value)
+    let (count, first) = glance_length(s, at)?;
+    pass_names(s, first, count)
 }
 
 // A space and a path.
-fn pass_name(s: &[u8], at: usize, spaces: usize) -> usize
-    ensures { Passes (space_field spaces ⊗ path_field) s.now at result }
+fn pass_name(s: &[u8], at: usize, spaces: usize) -> Option<usize>
+    ensures { IfSome result (λ next. Passes (space_field spaces ⊗ path_field) s.now at next) }
 {
-    let middle = pass_space(s, at, spaces);
-    if middle == 0 {
-        return 0;
-    }
+    let middle = pass_space(s, at, spaces)?;
     pass_path(s, middle)
 }
 
 // A target: a key or a name.
-fn pass_target(s: &[u8], at: usize, spaces: usize) -> usize
-    ensures { Passes (target_field spaces) s.now at result }
+fn pass_target(s: &[u8], at: usize, spaces: usize) -> Option<usize>
+    ensures { IfSome result (λ next. Passes (target_field spaces) s.now at next) }
 {
-    let form = glance_at(s, at, 0, 0, 1);
-    let middle = form.next;
-    if middle == 0 {
-        return 0;
-    }
-    if form.value == 0 {
+    let (form, middle) = glance_at(s, at, 0, 0, 1)?;
+    if form == 0 {
         return pass_key(s, middle);
     }
     pass_name(s, middle, spaces)
 }
 
 // The binding that `rest` begins with: the name that it binds, packed, and the place after it.
-pub fn pass_binding(rest: &[u8], spaces: usize) -> Glance
-    ensures { PassesBinding spaces rest.now result }
+pub fn pass_binding(rest: &[u8], spaces: usize) -> Option<(u32, usize)>
+    ensures { IfSome result (λ passed. PassesBinding spaces rest.now passed.0 passed.1) }
 {
-    let space = glance_at(rest, 0, 0, 0, 63);
-    if spaces <= space.value as usize {
-        return nothing();
+    let (space, at1) = glance_at(rest, 0, 0, 0, 63)?;
+    if spaces <= space as usize {
+        return None;
     }
-    let at1 = space.next;
-    if at1 == 0 {
-        return nothing();
-    }
-    let base = glance_base(rest, at1);
-    let at2 = base.next;
-    if at2 == 0 {
-        return nothing();
-    }
-    Glance {
-        value: space.value * 65536 + base.value,
-        next: pass_target(rest, at2, spaces),
-    }
+    let (base, at2) = glance_base(rest, at1)?;
+    let next = pass_target(rest, at2, spaces)?;
+    Some((space * 65536 + base, next))
 }
 
 // The access record that `rest` begins with.
-pub fn pass_access(rest: &[u8], spaces: usize) -> usize
-    ensures { Passes (access_record spaces) rest.now 0 result }
+pub fn pass_access(rest: &[u8], spaces: usize) -> Option<usize>
+    ensures { IfSome result (λ next. Passes (access_record spaces) rest.now 0 next) }
 {
-    let at1 = pass_space(rest, 0, spaces);
-    if at1 == 0 {
-        return 0;
-    }
-    let at2 = pass_use(rest, at1);
-    if at2 == 0 {
-        return 0;
-    }
-    let at3 = pass_path(rest, at2);
-    if at3 == 0 {
-        return 0;
-    }
+    let at1 = pass_space(rest, 0, spaces)?;
+    let at2 = pass_use(rest, at1)?;
+    let at3 = pass_path(rest, at2)?;
     pass_depth(rest, at3)
 }
 
 // The delegation that `rest` begins with.
-pub fn pass_delegation(rest: &[u8], spaces: usize) -> usize
-    ensures { Passes (delegation_record spaces) rest.now 0 result }
+pub fn pass_delegation(rest: &[u8], spaces: usize) -> Option<usize>
+    ensures { IfSome result (λ next. Passes (delegation_record spaces) rest.now 0 next) }
 {
-    let at1 = pass_space(rest, 0, spaces);
-    if at1 == 0 {
-        return 0;
-    }
-    let at2 = pass_path(rest, at1);
-    if at2 == 0 {
-        return 0;
-    }
-    let at3 = pass_use(rest, at2);
-    if at3 == 0 {
-        return 0;
-    }
-    let at4 = pass_path(rest, at3);
-    if at4 == 0 {
-        return 0;
-    }
+    let at1 = pass_space(rest, 0, spaces)?;
+    let at2 = pass_path(rest, at1)?;
+    let at3 = pass_use(rest, at2)?;
+    let at4 = pass_path(rest, at3)?;
     pass_depth(rest, at4)
 }
 
-// One if the first three numbers are the other three, else none.
-fn one_if_same(owner: u32, object: u32, right: u32, who: u32, what: u32, how: u32) -> usize
-    ensures { (result ≡ pick (is_for owner object right (record { 0 = who }) what how) 1 0) × (result ≤ 1) }
+// Whether a key, an object and a right are those of this owner and use.
+fn is_for(owner: Key, wanted: Use, who: u32, object: u32, right: u32) -> bool
+    ensures { result ≡ is_for owner.0 wanted.object wanted.right (record { 0 = who }) object right }
 {
-    if who != owner {
-        return 0;
-    }
-    if what != object {
-        return 0;
-    }
-    if how != right {
-        return 0;
-    }
-    1
+    who == owner.0 && object == wanted.object && right == wanted.right
 }
 
-// An owner key, an object, a right, a key and a depth. Twice the place after them is to fit.
-fn pass_from_owner(s: &[u8], at: usize, owner: u32, object: u32, right: u32) -> usize
-    ensures { Sifts (key_field ⊗ use_fields ⊗ key_field ⊗ depth_field) (λ w. is_for owner object right w.0 w.1.0.0 w.1.0.1) s.now at result }
+// An owner key, an object, a right, a key and a depth: the place after them, and whether the first three are these.
+fn pass_from_owner(s: &[u8], at: usize, owner: Key, wanted: Use) -> Option<(usize, bool)>
+    ensures { IfSome result (λ passed. Sifts (key_field ⊗ use_fields ⊗ key_field ⊗ depth_field) (λ w. is_for owner.0 wanted.object wanted.right w.0 w.1.0.0 w.1.0.1) s.now at passed.0 passed.1) }
 {
-    let who = glance_key(s, at);
-    let at1 = who.next;
-    if at1 == 0 {
-        return 0;
-    }
-    let what = glance_object(s, at1);
-    let at2 = what.next;
-    if at2 == 0 {
-        return 0;
-    }
-    let how = glance_right(s, at2);
-    let at3 = how.next;
-    if at3 == 0 {
-        return 0;
-    }
-    let at4 = pass_key(s, at3);
-    if at4 == 0 {
-        return 0;
-    }
-    let next = pass_depth(s, at4);
-    if next == 0 {
-        return 0;
-    }
-    if 65535 < next {
-        return 0;
-    }
-    2 * next + one_if_same(owner, object, right, who.value, what.value, how.value)
+    let (who, at1) = glance_key(s, at)?;
+    let (object, at2) = glance_object(s, at1)?;
+    let (right, at3) = glance_right(s, at2)?;
+    let at4 = pass_key(s, at3)?;
+    let next = pass_depth(s, at4)?;
+    Some((next, is_for(owner, wanted, who, object, right)))
 }
 
-// The key access record at the place `at`, and whether it is for this owner, object and right.
-pub fn pass_key_access(s: &[u8], at: usize, owner: u32, object: u32, right: u32) -> usize
-    ensures { Sifts key_access_record (λ x. is_for owner object right x.owner x.object x.right) s.now at result }
+// The key access record at the place `at`: the place after it, and whether it is for this owner and use.
+pub fn pass_key_access(s: &[u8], at: usize, owner: Key, wanted: Use) -> Option<(usize, bool)>
+    ensures { IfSome result (λ passed. Sifts key_access_record (λ x. is_for owner.0 wanted.object wanted.right x.owner x.object x.right) s.now at passed.0 passed.1) }
 {
-    pass_from_owner(s, at, owner, object, right)
+    pass_from_owner(s, at, owner, wanted)
 }
 
-// The key delegation at the place `at`, and whether it is for this owner, object and right.
-pub fn pass_key_delegation(s: &[u8], at: usize, owner: u32, object: u32, right: u32) -> usize
-    ensures { Sifts key_delegation_record (λ x. is_for owner object right x.owner x.object x.right) s.now at result }
+// The key delegation at the place `at`: the place after it, and whether it is for this owner and use.
+pub fn pass_key_delegation(s: &[u8], at: usize, owner: Key, wanted: Use) -> Option<(usize, bool)>
+    ensures { IfSome result (λ passed. Sifts key_delegation_record (λ x. is_for owner.0 wanted.object wanted.right x.owner x.object x.right) s.now at passed.0 passed.1) }
 {
-    let middle = pass_key(s, at);
-    if middle == 0 {
-        return 0;
-    }
-    pass_from_owner(s, middle, owner, object, right)
+    let middle = pass_key(s, at)?;
+    pass_from_owner(s, middle, owner, wanted)
 }

@@ -1,93 +1,63 @@
 // Requests: who asks, whose object, which object and which right.
 ghost use Rattle.std.specs.Prelude.{◌≡◌};
-ghost use Rattle.records.specs.Requests.{read_request, request_read, read_key_request, key_request_read};
+ghost use Rattle.records.specs.Requests.{read_request, request_value, read_key_request, key_request_value, held_as};
 
-use crate::fields::{KeyRead, SpaceRead, Use, UseRead, read_key, read_space, read_use};
-use crate::targets::{Target, TargetRead, read_target};
+use crate::fields::{Use, read_key, read_space, read_use};
+use crate::targets::{Target, read_target};
 use rules::{Key, Space};
 
 pub const MOST_REQUEST: usize = 64;
 
-#[derive(Clone, Copy)]
+#[derive(Clone, Copy, PartialEq, Eq)]
 pub struct Request {
     pub subject: Target,
     pub owner: Space,
     pub wanted: Use,
 }
 
-#[derive(Clone, Copy)]
-pub enum RequestRead {
-    Request(Request),
-    Not,
-}
-
-#[derive(Clone, Copy)]
+#[derive(Clone, Copy, PartialEq, Eq)]
 pub struct KeyRequest {
     pub subject: Key,
     pub owner: Key,
     pub wanted: Use,
 }
 
-#[derive(Clone, Copy)]
-pub enum KeyRequestRead {
-    KeyRequest(KeyRequest),
-    Not,
-}
-
 // The request that the bytes hold, against a table with so many spaces.
-pub fn read_request(bytes: &[u8], spaces: usize) -> RequestRead
-    ensures { result ≡ request_read (read_request spaces bytes.now) }
+pub fn read_request(bytes: &[u8], spaces: usize) -> Option<Request>
+    ensures { result ≡ held_as request_value (read_request spaces bytes.now) }
 {
     if MOST_REQUEST < bytes.len() {
-        return RequestRead::Not;
+        return None;
     }
-    let first = read_target(bytes, 0, spaces);
-    let TargetRead::Target(subject, at1) = first else {
-        return RequestRead::Not;
-    };
-    let second = read_space(bytes, at1, spaces);
-    let SpaceRead::Space(owner, at2) = second else {
-        return RequestRead::Not;
-    };
-    let third = read_use(bytes, at2);
-    let UseRead::Use(wanted, next) = third else {
-        return RequestRead::Not;
-    };
-    if next == bytes.len() {
-        return RequestRead::Request(Request {
-            subject,
-            owner,
-            wanted,
-        });
+    let (subject, at1) = read_target(bytes, 0, spaces).ok()?;
+    let (owner, at2) = read_space(bytes, at1, spaces).ok()?;
+    let (wanted, next) = read_use(bytes, at2).ok()?;
+    if next != bytes.len() {
+        return None;
     }
-    RequestRead::Not
+    Some(Request {
+        subject,
+        owner,
+        wanted,
+    })
 }
 
 // The key request that the bytes hold.
-pub fn read_key_request(bytes: &[u8]) -> KeyRequestRead
-    ensures { result ≡ key_request_read (read_key_request bytes.now) }
+pub fn read_key_request(bytes: &[u8]) -> Option<KeyRequest>
+    ensures { result ≡ held_as key_request_value (read_key_request bytes.now) }
 {
     if MOST_REQUEST < bytes.len() {
-        return KeyRequestRead::Not;
+        return None;
     }
-    let first = read_key(bytes, 0);
-    let KeyRead::Key(subject, at1) = first else {
-        return KeyRequestRead::Not;
-    };
-    let second = read_key(bytes, at1);
-    let KeyRead::Key(owner, at2) = second else {
-        return KeyRequestRead::Not;
-    };
-    let third = read_use(bytes, at2);
-    let UseRead::Use(wanted, next) = third else {
-        return KeyRequestRead::Not;
-    };
-    if next == bytes.len() {
-        return KeyRequestRead::KeyRequest(KeyRequest {
-            subject,
-            owner,
-            wanted,
-        });
+    let (subject, at1) = read_key(bytes, 0).ok()?;
+    let (owner, at2) = read_key(bytes, at1).ok()?;
+    let (wanted, next) = read_use(bytes, at2).ok()?;
+    if next != bytes.len() {
+        return None;
     }
-    KeyRequestRead::Not
+    Some(KeyRequest {
+        subject,
+        owner,
+        wanted,
+    })
 }

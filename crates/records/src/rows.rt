@@ -1,5 +1,5 @@
 // Rows of numbers: where a number stands first.
-ghost use Rattle.std.specs.Prelude.{◌≡◌, ◌+◌, ◌<◌, ◌≤◌, length, take, drop, set};
+ghost use Rattle.std.specs.Prelude.{◌≡◌, ◌+◌, ◌<◌, ◌≤◌, length, take, drop, set, MatchOption};
 ghost use Rattle.records.specs.Rows.{is_among, Passed, First, mark_of, Marked};
 
 // Whether one of the eight numbers from the place on is it. All eight are compared, so that the processor can do it at once.
@@ -26,30 +26,29 @@ fn pass_eights(row: &[u32], number: u32) -> usize
         if is_near(row, at, number) {
             return at;
         }
-        at = at + 8;
+        at += 8;
     }
     at
 }
 
-// Where the number stands first; the row's length, if it does not.
-pub fn find_first(row: &[u32], number: u32) -> usize
-    ensures { First row.now number result }
+// Where the number stands first.
+pub fn find_first(row: &[u32], number: u32) -> Option<usize>
+    ensures { MatchOption result (Passed row.now number (length row.now)) (λ at. First row.now number at) }
 {
-    let mut at = pass_eights(row, number);
-    while at < row.len() {
+    let from = pass_eights(row, number);
+    for at in from..row.len() {
         if row[at] == number {
-            return at;
+            return Some(at);
         }
-        at = at + 1;
     }
-    at
+    None
 }
 
 // Whether the number is one of these.
 pub fn is_among(row: &[u32], number: u32) -> bool
     ensures { result ≡ is_among row.now number }
 {
-    find_first(row, number) < row.len()
+    find_first(row, number).is_some()
 }
 
 // The place of a number's mark.
@@ -64,11 +63,7 @@ pub fn is_marked_among(marks: &[u16], row: &[u32], number: u32) -> bool
     requires { Marked marks.now row.now }
     ensures { result ≡ is_among row.now number }
 {
-    let place = mark_of(number);
-    if marks[place] == 0 {
-        return false;
-    }
-    is_among(row, number)
+    marks[mark_of(number)] != 0 && is_among(row, number)
 }
 
 // Marks the number.
@@ -76,6 +71,5 @@ pub fn mark(marks: &mut [u16], number: u32)
     requires { 512 ≤ length marks.old }
     ensures { marks.new ≡ set marks.old (mark_of number) 1 }
 {
-    let place = mark_of(number);
-    marks[place] = 1;
+    marks[mark_of(number)] = 1;
 }

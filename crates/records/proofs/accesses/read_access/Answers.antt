@@ -1,27 +1,28 @@
 -- `read_access` passes on the fault of the first part that has one, and else finds all four.
-use mathlib.Core.Path.{sym, ap}
-use Rattle.records.specs.Accesses.{access_record, access_read}
-use Rattle.records.proofs.ParsedLaws.{both_first, both_then, mapped_bad}
-use Rattle.records.proofs.FieldsLaws.{space_got, space_told, use_got, use_told, depth_got, depth_told}
-use Rattle.records.proofs.PathsLaws.{path_got, path_told}
-use Rattle.records.proofs.AccessesLaws.{access_found}
+use Rattle.records.specs.Accesses.{access_record}
+use Rattle.records.proofs.ParsedLaws.{same_got, same_bad, found_got, found_bad, as_got, passed_on, both_got, both_first, both_then, mapped_got, mapped_bad}
 use Rattle.records.proofs.accesses.read_access.Goals as goal
 
-pub returns-in_default : goal.returns-in_default
+pub returns-in_err-owner : goal.returns-in_err-owner
 unfolding access_record
-returns-in_default c = ap access_read (sym (mapped_bad _ _ _ _ (both_first _ _ _ _ (space_told _ _ _ _ c.read_space-first.ensures c.in_default.is c.space_fault.ensures))))
+returns-in_err-owner c = passed_on _ c.from_residual.ensures.1 (mapped_bad _ _ _ _ (both_first _ _ _ _ (same_bad _ c.in_err-owner.ensures)))
 
-pub returns-in_default-second : goal.returns-in_default-second
+pub returns-in_err-wanted : goal.returns-in_err-wanted
 unfolding access_record
-returns-in_default-second c = ap access_read (sym (mapped_bad _ _ _ _ (both_then _ _ _ _ (space_got _ _ _ _ c.read_space-first.ensures c.in-Space.is) (both_first _ _ _ _ (use_told _ _ _ _ c.read_use-second.ensures c.in_default-second.is c.use_fault.ensures)))))
+returns-in_err-wanted c = passed_on _ c.from_residual-in_err-wanted.ensures.1 (mapped_bad _ _ _ _ (both_then _ _ _ _ (same_got _ c.in_ok-owner.ensures) (both_first _ _ _ _ (found_bad _ _ c.in_err-wanted.ensures))))
 
-pub returns-in_default-third : goal.returns-in_default-third
+pub returns-in_err-path : goal.returns-in_err-path
 unfolding access_record
-returns-in_default-third c = ap access_read (sym (mapped_bad _ _ _ _ (both_then _ _ _ _ (space_got _ _ _ _ c.read_space-first.ensures c.in-Space.is) (both_then _ _ _ _ (use_got _ _ _ _ c.read_use-second.ensures c.in-Use.is) (both_first _ _ _ _ (path_told _ _ _ _ c.read_path-third.ensures c.in_default-third.is c.path_fault.ensures))))))
+returns-in_err-path c = passed_on _ c.from_residual-in_err-path.ensures.1 (mapped_bad _ _ _ _ (both_then _ _ _ _ (same_got _ c.in_ok-owner.ensures) (both_then _ _ _ _ (found_got _ _ c.in_ok-wanted.ensures).1 (both_first _ _ _ _ (found_bad _ _ c.in_err-path.ensures)))))
 
-pub returns-in_default-fourth : goal.returns-in_default-fourth
+pub returns-in_err-depth : goal.returns-in_err-depth
 unfolding access_record
-returns-in_default-fourth c = ap access_read (sym (mapped_bad _ _ _ _ (both_then _ _ _ _ (space_got _ _ _ _ c.read_space-first.ensures c.in-Space.is) (both_then _ _ _ _ (use_got _ _ _ _ c.read_use-second.ensures c.in-Use.is) (both_then _ _ _ _ (path_got _ _ _ _ c.read_path-third.ensures c.in-Path.is).1 (depth_told _ _ _ _ c.read_depth-fourth.ensures c.in_default-fourth.is c.depth_fault.ensures))))))
+returns-in_err-depth c = passed_on _ c.from_residual-in_err-depth.ensures.1 (mapped_bad _ _ _ _ (both_then _ _ _ _ (same_got _ c.in_ok-owner.ensures) (both_then _ _ _ _ (found_got _ _ c.in_ok-wanted.ensures).1 (both_then _ _ _ _ (found_got _ _ c.in_ok-path.ensures).1 (found_bad _ _ c.in_err-depth.ensures)))))
 
 pub returns : goal.returns
-returns c = access_found _ _ _ _ _ _ _ _ _ _ (space_got _ _ _ _ c.read_space-first.ensures c.in-Space.is) (use_got _ _ _ _ c.read_use-second.ensures c.in-Use.is) (path_got _ _ _ _ c.read_path-third.ensures c.in-Path.is) (depth_got _ _ _ _ c.read_depth-fourth.ensures c.in-Depth.is)
+unfolding access_record
+returns c =
+    let u = found_got _ _ c.in_ok-wanted.ensures in
+    let p = found_got _ _ c.in_ok-path.ensures in
+    let d = found_got _ _ c.in_ok-depth.ensures in
+    rw (u.2, p.2, d.2) (as_got _ (mapped_got _ _ _ _ (both_got _ _ _ _ (same_got _ c.in_ok-owner.ensures) (both_got _ _ _ _ u.1 (both_got _ _ _ _ p.1 d.1)))))

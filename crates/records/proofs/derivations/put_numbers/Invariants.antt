@@ -1,11 +1,6 @@
--- `put_numbers` keeps the first `i` numbers written, one behind the other.
-use Prim.Native.Nat.{◌-◌}
-use lib.ListN.{length}
+-- `put_numbers` keeps the numbers so far written, one behind the other.
 use Rattle.records.proofs.PutLaws.{Putting}
 use Rattle.records.proofs.derivations.put_numbers.Given as goal
 
-abbrev pub invariant-loop-i : goal.invariant-loop-i
-invariant-loop-i l = Putting l.initial.out l.from l.numbers l.out l.at l.i
-
-abbrev pub decreases-loop-i : goal.decreases-loop-i
-decreases-loop-i l = length l.numbers - l.i
+abbrev pub invariant-loop-number : goal.invariant-loop-number
+invariant-loop-number l = Putting l.initial.out l.from l.numbers l.out l.at l.number-index

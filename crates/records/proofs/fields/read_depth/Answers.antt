@@ -1,12 +1,15 @@
 -- `read_depth` passes on the fault of the number; a number that makes no depth is out of range.
-use Rattle.records.proofs.FieldsLaws.{depth_fails, depth_high, depth_value}
+use Rattle.records.proofs.ParsedLaws.{same_got, same_bad, as_got, as_bad, passed_on, bad_first}
+use Rattle.records.proofs.FieldsLaws.{depth_found, depth_high}
+use Rattle.records.specs.Fields.{depth_field}
 use Rattle.records.proofs.fields.read_depth.Goals as goal
 
-pub returns-in_default : goal.returns-in_default
-returns-in_default c = depth_fails _ _ _ c.number_at-number.ensures _ _ c.in_default.is c.field_fault.ensures
+pub returns-in_err-value : goal.returns-in_err-value
+unfolding depth_field
+returns-in_err-value c = passed_on _ c.from_residual.ensures.1 (bad_first _ _ (same_bad _ c.in_err-value.ensures))
 
-pub returns-in_default-made : goal.returns-in_default-made
-returns-in_default-made c = depth_high _ _ _ c.number_at-number.ensures _ _ _ _ c.in-Value.is c.new-made.ensures c.in_default-made.is c.fault_at.ensures
+pub returns-in-Some : goal.returns-in-Some
+returns-in-Some c = let d = depth_found _ _ _ _ (same_got _ c.in_ok-value.ensures) _ c.in-Some.ensures in rw d.1 (as_got _ d.0)
 
-pub returns : goal.returns
-returns c = depth_value _ _ _ c.number_at-number.ensures _ _ _ _ c.in-Value.is c.new-made.ensures c.in-Good.is
+pub returns-in-None : goal.returns-in-None
+returns-in-None c = rw c.fault_at.ensures (as_bad _ (depth_high _ _ _ _ (same_got _ c.in_ok-value.ensures) c.in-None.ensures))

@@ -1,15 +1,21 @@
 -- `read_field` passes on the fault of the number, and else finds what `field` says: the tests that led to an answer are its own.
-use Rattle.records.proofs.FieldsLaws.{field_fails, field_low, field_high, field_value}
+use Rattle.records.proofs.ParsedLaws.{same_got, same_bad, as_got, as_bad, passed_on, bad_first}
+use Rattle.records.specs.Fields.{field}
+use Rattle.records.proofs.FieldsLaws.{field_low, field_high, field_value}
 use Rattle.records.proofs.fields.read_field.Goals as goal
+use Rattle.records.proofs.fields.read_field.Goals.{then-value-low-via-then-value-low, then-value-low-via-else-value-low+then-high-value}
 
-pub returns-in_default : goal.returns-in_default
-returns-in_default c = field_fails _ _ _ c.number_at-number.ensures _ _ _ c.in_default.is
+pub returns-in_err-value : goal.returns-in_err-value
+unfolding field
+returns-in_err-value c = passed_on _ c.from_residual.ensures.1 (bad_first _ _ (same_bad _ c.in_err-value.ensures))
 
 pub returns-then-value-low : goal.returns-then-value-low
-returns-then-value-low c = field_low _ _ _ c.number_at-number.ensures _ _ _ _ _ c.in-Value.is c.if-value-low.true c.fault_at.ensures
-
-pub returns-then-high-value : goal.returns-then-high-value
-returns-then-high-value c = field_high _ _ _ c.number_at-number.ensures _ _ _ _ _ c.in-Value.is c.if-value-low.false c.if-high-value.true c.fault_at-then-high-value.ensures
+returns-then-value-low c =
+    rw c.fault_at.ensures
+    (as_bad _ (elim c.then-value-low.branch [
+      | then-value-low-via-then-value-low w ↦ field_low _ _ _ _ (same_got _ c.in_ok-value.ensures) _ _ w.if-value-low.true
+      | then-value-low-via-else-value-low+then-high-value w ↦ field_high _ _ _ _ (same_got _ c.in_ok-value.ensures) _ _ w.if-value-low.false w.if-high-value.true
+    ]))
 
 pub returns : goal.returns
-returns c = field_value _ _ _ c.number_at-number.ensures _ _ _ _ c.in-Value.is c.if-value-low.false c.if-high-value.false
+returns c = as_got _ (field_value _ _ _ _ (same_got _ c.in_ok-value.ensures) _ _ c.if-value-low.false c.if-high-value.false)

@@ -1,30 +1,32 @@
 -- `read_key_delegation` passes on the fault of the first part that has one, and else finds all five.
-use mathlib.Core.Path.{sym, ap}
-use Rattle.records.specs.KeyRecords.{key_delegation_record, key_delegation_read}
-use Rattle.records.proofs.ParsedLaws.{both_first, both_then, mapped_bad}
-use Rattle.records.proofs.FieldsLaws.{key_got, key_told, use_got, use_told, depth_got, depth_told}
-use Rattle.records.proofs.KeyRecordsLaws.{key_delegation_found}
+use Rattle.records.specs.KeyRecords.{key_delegation_record}
+use Rattle.records.proofs.ParsedLaws.{same_got, same_bad, found_got, found_bad, as_got, passed_on, both_got, both_first, both_then, mapped_got, mapped_bad}
 use Rattle.records.proofs.keys.read_key_delegation.Goals as goal
 
-pub returns-in_default : goal.returns-in_default
+pub returns-in_err-writer : goal.returns-in_err-writer
 unfolding key_delegation_record
-returns-in_default c = ap key_delegation_read (sym (mapped_bad _ _ _ _ (both_first _ _ _ _ (key_told _ _ _ _ c.read_key-first.ensures c.in_default.is c.key_fault.ensures))))
+returns-in_err-writer c = passed_on _ c.from_residual.ensures.1 (mapped_bad _ _ _ _ (both_first _ _ _ _ (same_bad _ c.in_err-writer.ensures)))
 
-pub returns-in_default-second : goal.returns-in_default-second
+pub returns-in_err-owner : goal.returns-in_err-owner
 unfolding key_delegation_record
-returns-in_default-second c = ap key_delegation_read (sym (mapped_bad _ _ _ _ (both_then _ _ _ _ (key_got _ _ _ _ c.read_key-first.ensures c.in-Key.is) (both_first _ _ _ _ (key_told _ _ _ _ c.read_key-second.ensures c.in_default-second.is c.key_fault-in_default-second.ensures)))))
+returns-in_err-owner c = passed_on _ c.from_residual-in_err-owner.ensures.1 (mapped_bad _ _ _ _ (both_then _ _ _ _ (same_got _ c.in_ok-writer.ensures) (both_first _ _ _ _ (same_bad _ c.in_err-owner.ensures))))
 
-pub returns-in_default-third : goal.returns-in_default-third
+pub returns-in_err-wanted : goal.returns-in_err-wanted
 unfolding key_delegation_record
-returns-in_default-third c = ap key_delegation_read (sym (mapped_bad _ _ _ _ (both_then _ _ _ _ (key_got _ _ _ _ c.read_key-first.ensures c.in-Key.is) (both_then _ _ _ _ (key_got _ _ _ _ c.read_key-second.ensures c.in-Key-second.is) (both_first _ _ _ _ (use_told _ _ _ _ c.read_use-third.ensures c.in_default-third.is c.use_fault.ensures))))))
+returns-in_err-wanted c = passed_on _ c.from_residual-in_err-wanted.ensures.1 (mapped_bad _ _ _ _ (both_then _ _ _ _ (same_got _ c.in_ok-writer.ensures) (both_then _ _ _ _ (same_got _ c.in_ok-owner.ensures) (both_first _ _ _ _ (found_bad _ _ c.in_err-wanted.ensures)))))
 
-pub returns-in_default-fourth : goal.returns-in_default-fourth
+pub returns-in_err-delegatee : goal.returns-in_err-delegatee
 unfolding key_delegation_record
-returns-in_default-fourth c = ap key_delegation_read (sym (mapped_bad _ _ _ _ (both_then _ _ _ _ (key_got _ _ _ _ c.read_key-first.ensures c.in-Key.is) (both_then _ _ _ _ (key_got _ _ _ _ c.read_key-second.ensures c.in-Key-second.is) (both_then _ _ _ _ (use_got _ _ _ _ c.read_use-third.ensures c.in-Use.is) (both_first _ _ _ _ (key_told _ _ _ _ c.read_key-fourth.ensures c.in_default-fourth.is c.key_fault-in_default-fourth.ensures)))))))
+returns-in_err-delegatee c = passed_on _ c.from_residual-in_err-delegatee.ensures.1 (mapped_bad _ _ _ _ (both_then _ _ _ _ (same_got _ c.in_ok-writer.ensures) (both_then _ _ _ _ (same_got _ c.in_ok-owner.ensures) (both_then _ _ _ _ (found_got _ _ c.in_ok-wanted.ensures).1 (both_first _ _ _ _ (same_bad _ c.in_err-delegatee.ensures))))))
 
-pub returns-in_default-fifth : goal.returns-in_default-fifth
+pub returns-in_err-depth : goal.returns-in_err-depth
 unfolding key_delegation_record
-returns-in_default-fifth c = ap key_delegation_read (sym (mapped_bad _ _ _ _ (both_then _ _ _ _ (key_got _ _ _ _ c.read_key-first.ensures c.in-Key.is) (both_then _ _ _ _ (key_got _ _ _ _ c.read_key-second.ensures c.in-Key-second.is) (both_then _ _ _ _ (use_got _ _ _ _ c.read_use-third.ensures c.in-Use.is) (both_then _ _ _ _ (key_got _ _ _ _ c.read_key-fourth.ensures c.in-Key-fourth.is) (depth_told _ _ _ _ c.read_depth-fifth.ensures c.in_default-fifth.is c.depth_fault.ensures)))))))
+returns-in_err-depth c = passed_on _ c.from_residual-in_err-depth.ensures.1 (mapped_bad _ _ _ _ (both_then _ _ _ _ (same_got _ c.in_ok-writer.ensures) (both_then _ _ _ _ (same_got _ c.in_ok-owner.ensures) (both_then _ _ _ _ (found_got _ _ c.in_ok-wanted.ensures).1 (both_then _ _ _ _ (same_got _ c.in_ok-delegatee.ensures) (found_bad _ _ c.in_err-depth.ensures))))))
 
 pub returns : goal.returns
-returns c = key_delegation_found _ _ _ _ _ _ _ _ _ _ _ (key_got _ _ _ _ c.read_key-first.ensures c.in-Key.is) (key_got _ _ _ _ c.read_key-second.ensures c.in-Key-second.is) (use_got _ _ _ _ c.read_use-third.ensures c.in-Use.is) (key_got _ _ _ _ c.read_key-fourth.ensures c.in-Key-fourth.is) (depth_got _ _ _ _ c.read_depth-fifth.ensures c.in-Depth.is)
+unfolding key_delegation_record
+returns c =
+    let u = found_got _ _ c.in_ok-wanted.ensures in
+    let d = found_got _ _ c.in_ok-depth.ensures in
+    rw (u.2, d.2)
+    (as_got _ (mapped_got _ _ _ _ (both_got _ _ _ _ (same_got _ c.in_ok-writer.ensures) (both_got _ _ _ _ (same_got _ c.in_ok-owner.ensures) (both_got _ _ _ _ u.1 (both_got _ _ _ _ (same_got _ c.in_ok-delegatee.ensures) d.1))))))

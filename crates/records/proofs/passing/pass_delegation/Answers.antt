@@ -1,19 +1,7 @@
 -- `pass_delegation`: its parts, one behind the other.
-use mathlib.Core.Path.{refl}
-use Rattle.records.proofs.PassingLaws.{passes_none, delegation_passes}
+use Rattle.std.proofs.lemmas.Option.{IfSome_then}
+use Rattle.records.proofs.PassingLaws.{delegation_passes}
 use Rattle.records.proofs.passing.pass_delegation.Goals as goal
 
-pub returns-then-at1-eq0 : goal.returns-then-at1-eq0
-returns-then-at1-eq0 c = passes_none _ _ _ _ refl
-
-pub returns-then-at2-eq0 : goal.returns-then-at2-eq0
-returns-then-at2-eq0 c = passes_none _ _ _ _ refl
-
-pub returns-then-at3-eq0 : goal.returns-then-at3-eq0
-returns-then-at3-eq0 c = passes_none _ _ _ _ refl
-
-pub returns-then-at4-eq0 : goal.returns-then-at4-eq0
-returns-then-at4-eq0 c = passes_none _ _ _ _ refl
-
 pub returns : goal.returns
-returns c = delegation_passes _ _ _ _ _ c.pass_space-at1.ensures c.if-at1-eq0.false c.if-at2-eq0.false c.if-at3-eq0.false _ _ c.pass_path-at2.ensures c.pass_use-at3.ensures c.pass_path-at4.ensures c.if-at4-eq0.false c.pass_depth.ensures
+returns c = IfSome_then c.pass_depth.result c.pass_depth.ensures (λ next d. delegation_passes _ _ _ _ _ c.in_ok-at1.ensures _ _ c.in_ok-at2.ensures c.in_ok-at3.ensures c.in_ok-at4.ensures d)

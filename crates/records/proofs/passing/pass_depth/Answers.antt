@@ -4,4 +4,4 @@ use Rattle.records.proofs.PassingLaws.{depth_seen}
 use Rattle.records.proofs.passing.pass_depth.Goals as goal
 
 pub returns : goal.returns
-returns c = depth_seen _ _ _ _ _ c.glance_at-depth.ensures (omega arith)
+returns c = (_, depth_seen _ _ _ _ _ _ c.in_ok-next.ensures (omega arith))

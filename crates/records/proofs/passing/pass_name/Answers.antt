@@ -1,10 +1,7 @@
 -- `pass_name`: the space, and then the path.
-use mathlib.Core.Path.{refl}
-use Rattle.records.proofs.PassingLaws.{passes_none, passes_both}
+use Rattle.std.proofs.lemmas.Option.{IfSome_then}
+use Rattle.records.proofs.PassingLaws.{passes_both}
 use Rattle.records.proofs.passing.pass_name.Goals as goal
 
-pub returns-then-middle-eq0 : goal.returns-then-middle-eq0
-returns-then-middle-eq0 c = passes_none _ _ _ _ refl
-
 pub returns : goal.returns
-returns c = passes_both _ _ _ _ _ _ c.pass_space-middle.ensures c.if-middle-eq0.false c.pass_path.ensures
+returns c = IfSome_then c.pass_path.result c.pass_path.ensures (λ next p. passes_both _ _ _ _ _ _ c.in_ok-middle.ensures p)

@@ -1,30 +1,31 @@
--- `read_names` finds what `names_from` says: each answer stands behind the names read so far, with the tests of how many there are.
+-- `read_names` passes on the fault of the first name that has one, and else finds as many names as are asked for.
+use Rattle.records.proofs.ParsedLaws.{same_got, same_bad, as_got, passed_on}
 use Rattle.records.proofs.PathsLaws.{none_found, first_fails, one_found, second_fails, two_found, third_fails, three_found, fourth_fails, four_found}
 use Rattle.records.proofs.paths.read_names.Goals as goal
 
 pub returns-then-count-eq0 : goal.returns-then-count-eq0
-returns-then-count-eq0 c = none_found _ _ _ _ c.if-count-eq0.true c.path_of.ensures
+returns-then-count-eq0 c = rw c.path_of.ensures (as_got _ (none_found _ _ _ c.if-count-eq0.true))
 
-pub returns-in_default : goal.returns-in_default
-returns-in_default c = first_fails _ _ _ c.if-count-eq0.false _ c.read_base-one.ensures _ _ c.in_default.is c.field_fault.ensures
+pub returns-in_err-first : goal.returns-in_err-first
+returns-in_err-first c = passed_on _ c.from_residual.ensures.1 (first_fails _ _ _ c.if-count-eq0.false _ (same_bad _ c.in_err-first.ensures))
 
 pub returns-then-count-eq1 : goal.returns-then-count-eq1
-returns-then-count-eq1 c = one_found _ _ _ c.if-count-eq0.false _ c.read_base-one.ensures _ _ c.in-Value.is _ c.if-count-eq1.true c.path_of-then-count-eq1.ensures
+returns-then-count-eq1 c = rw c.path_of-then-count-eq1.ensures (as_got _ (one_found _ _ _ c.if-count-eq0.false _ _ (same_got _ c.in_ok-first.ensures) c.if-count-eq1.true))
 
-pub returns-in_default-two : goal.returns-in_default-two
-returns-in_default-two c = second_fails _ _ _ c.if-count-eq0.false _ c.read_base-one.ensures _ _ c.in-Value.is c.if-count-eq1.false _ c.read_base-two.ensures _ _ c.in_default-two.is c.field_fault-in_default-two.ensures
+pub returns-in_err-second : goal.returns-in_err-second
+returns-in_err-second c = passed_on _ c.from_residual-in_err-second.ensures.1 (second_fails _ _ _ c.if-count-eq0.false _ _ (same_got _ c.in_ok-first.ensures) c.if-count-eq1.false _ (same_bad _ c.in_err-second.ensures))
 
 pub returns-then-count-eq2 : goal.returns-then-count-eq2
-returns-then-count-eq2 c = two_found _ _ _ c.if-count-eq0.false _ c.read_base-one.ensures _ _ c.in-Value.is c.if-count-eq1.false _ c.read_base-two.ensures _ _ c.in-Value-two.is _ c.if-count-eq2.true c.path_of-then-count-eq2.ensures
+returns-then-count-eq2 c = rw c.path_of-then-count-eq2.ensures (as_got _ (two_found _ _ _ c.if-count-eq0.false _ _ (same_got _ c.in_ok-first.ensures) c.if-count-eq1.false _ _ (same_got _ c.in_ok-second.ensures) c.if-count-eq2.true))
 
-pub returns-in_default-three : goal.returns-in_default-three
-returns-in_default-three c = third_fails _ _ _ c.if-count-eq0.false _ c.read_base-one.ensures _ _ c.in-Value.is c.if-count-eq1.false _ c.read_base-two.ensures _ _ c.in-Value-two.is c.if-count-eq2.false _ c.read_base-three.ensures _ _ c.in_default-three.is c.field_fault-in_default-three.ensures
+pub returns-in_err-third : goal.returns-in_err-third
+returns-in_err-third c = passed_on _ c.from_residual-in_err-third.ensures.1 (third_fails _ _ _ c.if-count-eq0.false _ _ (same_got _ c.in_ok-first.ensures) c.if-count-eq1.false _ _ (same_got _ c.in_ok-second.ensures) c.if-count-eq2.false _ (same_bad _ c.in_err-third.ensures))
 
 pub returns-then-count-eq3 : goal.returns-then-count-eq3
-returns-then-count-eq3 c = three_found _ _ _ c.if-count-eq0.false _ c.read_base-one.ensures _ _ c.in-Value.is c.if-count-eq1.false _ c.read_base-two.ensures _ _ c.in-Value-two.is c.if-count-eq2.false _ c.read_base-three.ensures _ _ c.in-Value-three.is _ c.if-count-eq3.true c.path_of-then-count-eq3.ensures
+returns-then-count-eq3 c = rw c.path_of-then-count-eq3.ensures (as_got _ (three_found _ _ _ c.if-count-eq0.false _ _ (same_got _ c.in_ok-first.ensures) c.if-count-eq1.false _ _ (same_got _ c.in_ok-second.ensures) c.if-count-eq2.false _ _ (same_got _ c.in_ok-third.ensures) c.if-count-eq3.true))
 
-pub returns-in_default-four : goal.returns-in_default-four
-returns-in_default-four c = fourth_fails _ _ _ c.if-count-eq0.false _ c.read_base-one.ensures _ _ c.in-Value.is c.if-count-eq1.false _ c.read_base-two.ensures _ _ c.in-Value-two.is c.if-count-eq2.false _ c.read_base-three.ensures _ _ c.in-Value-three.is c.if-count-eq3.false c.requires _ c.read_base-four.ensures _ _ c.in_default-four.is c.field_fault-in_default-four.ensures
+pub returns-in_err-fourth : goal.returns-in_err-fourth
+returns-in_err-fourth c = passed_on _ c.from_residual-in_err-fourth.ensures.1 (fourth_fails _ _ _ c.if-count-eq0.false _ _ (same_got _ c.in_ok-first.ensures) c.if-count-eq1.false _ _ (same_got _ c.in_ok-second.ensures) c.if-count-eq2.false _ _ (same_got _ c.in_ok-third.ensures) c.if-count-eq3.false c.requires _ (same_bad _ c.in_err-fourth.ensures))
 
 pub returns : goal.returns
-returns c = four_found _ _ _ c.if-count-eq0.false _ c.read_base-one.ensures _ _ c.in-Value.is c.if-count-eq1.false _ c.read_base-two.ensures _ _ c.in-Value-two.is c.if-count-eq2.false _ c.read_base-three.ensures _ _ c.in-Value-three.is c.if-count-eq3.false c.requires _ c.read_base-four.ensures _ _ c.in-Value-four.is _ c.path_of-2.ensures
+returns c = rw c.path_of-2.ensures (as_got _ (four_found _ _ _ c.if-count-eq0.false _ _ (same_got _ c.in_ok-first.ensures) c.if-count-eq1.false _ _ (same_got _ c.in_ok-second.ensures) c.if-count-eq2.false _ _ (same_got _ c.in_ok-third.ensures) c.if-count-eq3.false c.requires _ _ (same_got _ c.in_ok-fourth.ensures)))

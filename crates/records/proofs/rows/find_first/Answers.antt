@@ -3,17 +3,14 @@ use native.Mathlib.Omega.{arith}
 use Rattle.records.proofs.RowsLaws.{passed_on}
 use Rattle.records.proofs.rows.find_first.Goals as goal
 
-pub pass_eights-at-requires : goal.pass_eights-at-requires
-pass_eights-at-requires c = tt
-
 pub loop-at-init : goal.loop-at-init
-loop-at-init c = c.pass_eights-at.ensures
+loop-at-init c = c.pass_eights-from.ensures
 
 pub returns-then-row-at : goal.returns-then-row-at
-returns-then-row-at c = record { passed = c.loop-at.invariant; here = λ h. c.if-row-at.true }
+returns-then-row-at c = record { passed = c.loop-at.invariant; there = c.loop-at-test.true; here = c.if-row-at.true }
 
 pub loop-at-preserved : goal.loop-at-preserved
 loop-at-preserved c = passed_on _ _ _ c.loop-at.invariant c.loop-at-test.true c.if-row-at.false
 
 pub returns : goal.returns
-returns c = record { passed = c.loop-at.invariant; here = λ h. absurd (omega arith) }
+returns c = record { most = omega arith; others = λ j h. c.loop-at.invariant.others j (omega (arith, c.loop-at-test.false, h)) }

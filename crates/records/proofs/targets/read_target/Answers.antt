@@ -1,15 +1,20 @@
--- `read_target` goes by the first number: 0 and a key, or 1 and a name.
-use Rattle.records.proofs.TargetsLaws.{form_fails, key_fails, key_found, found_name}
+-- `read_target` passes on the fault of the form, and else reads a key or a name.
+use mathlib.Core.Path.{ap, sym, ◌∙◌}
+use Rattle.records.specs.Parsed.{found_as}
+use Rattle.records.specs.Targets.{target_field, target_value}
+use Rattle.records.proofs.ParsedLaws.{same_got, same_bad, as_got, passed_on, bad_first, mapped_got, mapped_bad}
+use Rattle.records.proofs.TargetsLaws.{by_key, by_name}
 use Rattle.records.proofs.targets.read_target.Goals as goal
 
-pub returns-in_default : goal.returns-in_default
-returns-in_default c = form_fails _ _ _ _ _ _ c.read_field-form.ensures c.in_default.is c.field_fault.ensures
+pub returns-in_err-form : goal.returns-in_err-form
+unfolding target_field
+returns-in_err-form c = passed_on _ c.from_residual.ensures.1 (bad_first _ _ (same_bad _ c.in_err-form.ensures))
 
-pub returns-in_default-found : goal.returns-in_default-found
-returns-in_default-found c = key_fails _ _ _ _ _ _ c.read_field-form.ensures c.in-Value.is c.if-which-eq0.true _ _ _ c.read_key-found.ensures c.in_default-found.is c.key_fault.ensures
+pub returns-in_err-key : goal.returns-in_err-key
+returns-in_err-key c = passed_on _ c.from_residual-in_err-key.ensures.1 (by_key _ _ _ _ _ (same_got _ c.in_ok-form.ensures) c.if-form-eq0.true ∙ mapped_bad _ _ _ _ (same_bad _ c.in_err-key.ensures))
 
-pub returns-then-which-eq0 : goal.returns-then-which-eq0
-returns-then-which-eq0 c = key_found _ _ _ _ _ _ c.read_field-form.ensures c.in-Value.is c.if-which-eq0.true _ _ _ c.read_key-found.ensures c.in-Key.is
+pub returns-then-form-eq0 : goal.returns-then-form-eq0
+returns-then-form-eq0 c = as_got target_value (by_key _ _ _ _ _ (same_got _ c.in_ok-form.ensures) c.if-form-eq0.true ∙ mapped_got _ _ _ _ (same_got _ c.in_ok-key.ensures))
 
 pub returns : goal.returns
-returns c = found_name _ _ _ _ _ _ c.read_field-form.ensures c.in-Value.is c.if-which-eq0.false _ c.read_name.ensures
+returns c = c.read_name.ensures ∙ ap (found_as target_value) (sym (by_name _ _ _ _ _ (same_got _ c.in_ok-form.ensures) c.if-form-eq0.false))
