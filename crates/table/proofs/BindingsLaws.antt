@@ -1,41 +1,32 @@
 -- Bindings in a loop: a name that is bound already is looked for among packed ones.
 use mathlib.Core.Path.{◌≡◌, refl, sym, ◌∙◌, ap, subst, subst₂}
-use mathlib.Core.Bool.{Bool, true, false, not}
+use mathlib.Core.Bool.{Bool, true, false}
 use mathlib.Core.List.{List, []}
 use Prim.Native.Nat.{ℕ, ◌+◌, ◌<◌, ◌≤◌}
 use native.Mathlib.Omega.{arith}
 use lib.ListN.{length, take, set, length-set}
+use Rattle.std.specs.Prelude.{Ok, Err}
 use Rattle.rules.specs.Choice.{pick}
 use Rattle.rules.specs.Lists.{◌▷◌}
 use Rattle.rules.specs.Ranges.{most_base, most_delegations}
 use Rattle.rules.specs.Tables.{Binding, Target}
 use Rattle.rules.specs.declared.Space.{Space}
-use Rattle.wire.specs.declared.glancing.Glance.{Glance}
-use Rattle.records.specs.Parsed.{Parsed, got, bad, fault_at, moved_fault, ◌⟫◌}
-use Rattle.records.specs.Fields.{field, space_field, field_read, space_read}
+use Rattle.records.specs.Parsed.{Parsed, got, bad, fault_at, moved_fault, ◌⟫◌, found_as, after}
+use Rattle.records.specs.Fields.{field, space_field}
 use Rattle.records.specs.Targets.{target_field}
-use Rattle.records.specs.Bindings.{binding_record, is_bound, packed, binding_read, binding_value}
+use Rattle.records.specs.Bindings.{binding_record, is_bound, packed, binding_value}
 use Rattle.records.specs.Rows.{is_among, mark_of, Marked}
 use Rattle.records.specs.Passing.{PassesBinding}
 use Rattle.records.specs.Many.{many}
 use Rattle.records.specs.declared.faults.Kind.TheVariants as kind
 use Rattle.records.specs.declared.faults.Fault.{Fault}
-use Rattle.records.specs.declared.fields.Field.TheVariants as as_field
-use Rattle.records.specs.declared.fields.SpaceRead.TheVariants as as_space
 use Rattle.records.specs.declared.bindings.Binding.{Binding as BindingValue}
-use Rattle.records.specs.declared.bindings.BindingRead.{BindingRead}
-use Rattle.records.specs.declared.bindings.BindingRead.TheVariants as as_binding
 use Rattle.records.proofs.FormatLaws.{Walks}
-use Rattle.records.proofs.ParsedLaws.{then_got, got_then}
+use Rattle.records.proofs.ParsedLaws.{then_got, got_then, found_got, found_bad, as_got, as_bad}
 use Rattle.records.proofs.FieldsLaws.{field_within}
 use Rattle.records.proofs.RowsLaws.{marked_start, marked_on}
 use Rattle.records.proofs.BindingsLaws.{space_below}
 use Rattle.records.proofs.RecordsForm.{binding_walks}
-use Rattle.table.specs.Sections.{after_read, bound_read}
-use Rattle.table.specs.declared.loading.After.TheVariants as after
-use Rattle.table.specs.declared.loading.Bound.{Bound}
-use Rattle.table.specs.declared.loading.Bound.TheVariants as the_bound
-use Rattle.table.proofs.AnswersLaws.{binding_got, binding_bad, bound_got, bound_bad}
 use Rattle.table.proofs.LoadingLaws.{Besides, rest, there_got, there_bad, Reading, reading_start, reading_next, reading_stop, reading_end}
 use Rattle.table.specs.Kept.{Kept, Standing, name_of, unbound}
 use Rattle.table.proofs.KeptLaws.{kept_none, kept_more, standing_none, standing_more, Bases, none, and, among_bound}
@@ -54,7 +45,7 @@ same_bound spaces f g s at h = first (space_field spaces s at)
     second : (S : Space) (mid : ℕ) (p : Parsed ℕ) → field 1 most_base s mid ≡ p → (p ⟫ on_target spaces f s S mid) ≡ (p ⟫ on_target spaces g s S mid)
     second S mid (got b n) e =
         ap (λ (c : Bool). pick c (bad (fault_at kind.Twice mid)) (target_field spaces s n ⟫ λ target at. got (record { space = S; base = b; target = target }) at))
-        (h S b (field_within s mid 1 most_base (as_field.Value b n) b n (ap field_read (sym e)) refl).1)
+        (h S b (field_within s mid 1 most_base b n e).1)
     second S mid (bad d) e = refl
 
     first : (p : Parsed Space) → (p ⟫ λ S mid. field 1 most_base s mid ⟫ on_target spaces f s S mid) ≡ (p ⟫ λ S mid. field 1 most_base s mid ⟫ on_target spaces g s S mid)
@@ -104,8 +95,8 @@ module _ (spaces : ℕ) (bound : Space → ℕ → Bool) (s : List ℕ) (at : �
   pub binding_within : (x : Binding) (n : ℕ) → binding_record spaces bound s at ≡ got x n → (x.space.0 < spaces) × (x.base ≤ most_base)
   binding_within x n e =
       let p = parts_of x n e in (
-        space_below spaces s at (as_space.Space x.space p.mid) x.space p.mid (ap space_read (sym p.space)) refl,
-        (field_within s p.mid 1 most_base (as_field.Value x.base p.end) x.base p.end (ap field_read (sym p.base)) refl).1,
+        space_below spaces s at x.space p.mid p.space,
+        (field_within s p.mid 1 most_base x.base p.end p.base).1,
       )
 
 -- A binding that was found is found as well where other names are bound, if its own is not.
@@ -126,48 +117,41 @@ module _ (spaces : ℕ) (earlier : List ℕ) (s : List ℕ) (at : ℕ) (h : at �
   there x n e = there_got (λ (e : List Binding). binding_behind) (λ e. binding_walks spaces (λ S b. is_among earlier (packed S b))) s [] at h x n e
 
   -- One that is passed over.
-  module _ (g : Glance) (p : PassesBinding spaces (rest s at) g) (q : 0 < g.next) (c : Bool) (looked : c ≡ is_among earlier g.value) (away : not c ≡ true) where
-    free : (b : Bool) → not b ≡ true → b ≡ false
-    free true e = sym e
-    free false e = refl
+  module _ (name next : ℕ) (p : PassesBinding spaces (rest s at) name next) (c : Bool) (looked : c ≡ is_among earlier name) (away : c ≡ false) where
+    passed : binding_behind (rest s at) 0 ≡ got p.0 next
+    passed = reads_free spaces unbound (λ S b. is_among earlier (packed S b)) (rest s at) 0 p.0 next (ap (λ (v : ℕ). is_among earlier v) (sym p.2) ∙ sym looked ∙ away) p.1
 
-    passed : binding_behind (rest s at) 0 ≡ got (p.good q).0 g.next
-    passed =
-        reads_free spaces unbound (λ S b. is_among earlier (packed S b)) (rest s at) 0 (p.good q).0 g.next
-        (ap (λ (v : ℕ). is_among earlier v) (sym (p.good q).2) ∙ sym looked ∙ free c away) (p.good q).1
+    pub passed_within : at + next ≤ length s
+    passed_within = (there p.0 next passed).1
 
-    pub passed_within : at + g.next ≤ length s
-    passed_within = (there (p.good q).0 g.next passed).1
-
-    pub passed_name : the_bound.Name g.value (at + g.next) ≡ bound_read (binding_behind s at)
-    passed_name = ap (λ (v : ℕ). the_bound.Name v (at + g.next)) (p.good q).2 ∙ ap bound_read (sym (there (p.good q).0 g.next passed).0)
+    pub passed_name : Ok (name, at + next) ≡ found_as name_of (binding_behind s at)
+    passed_name = rw p.2 (as_got name_of (there p.0 next passed).0)
 
   -- One that is read.
-  module _ (a : BindingRead) (found : a ≡ binding_read (binding_behind (rest s at) 0)) where
-    module _ (v : BindingValue) (n : ℕ) (q : a ≡ as_binding.Binding v n) where
-      one : (x : Binding) × (binding_behind (rest s at) 0 ≡ got x n) × (v ≡ binding_value x)
-      one = binding_got (binding_behind (rest s at) 0) a v n found q
+  module _ (v : BindingValue) (n : ℕ) (q : Ok (v, n) ≡ found_as binding_value (binding_behind (rest s at) 0)) where
+    one : (x : Binding) × (binding_behind (rest s at) 0 ≡ got x n) × (v ≡ binding_value x)
+    one = found_got binding_value (binding_behind (rest s at) 0) q
 
-      pub read_within : (v.space.0 < spaces) × (v.base < 65536) × (at + n ≤ length s)
-      read_within =
-          let w = one in
-          let b = binding_within spaces (λ S b. is_among earlier (packed S b)) (rest s at) 0 w.0 n w.1 in
-          subst (λ (y : BindingValue). (y.space.0 < spaces) × (y.base < 65536) × (at + n ≤ length s)) (sym w.2) (b.0, omega (arith, b.1), (there w.0 n w.1).1)
+    pub read_within : (v.space.0 < spaces) × (v.base < 65536) × (at + n ≤ length s)
+    read_within =
+        let w = one in
+        let b = binding_within spaces (λ S b. is_among earlier (packed S b)) (rest s at) 0 w.0 n w.1 in
+        subst (λ (y : BindingValue). (y.space.0 < spaces) × (y.base < 65536) × (at + n ≤ length s)) (sym w.2) (b.0, omega (arith, b.1), (there w.0 n w.1).1)
 
-      pub read_name : (p : ℕ) → p ≡ packed v.space v.base → the_bound.Name p (at + n) ≡ bound_read (binding_behind s at)
-      read_name p e =
-          ap (λ (k : ℕ). the_bound.Name k (at + n)) (e ∙ ap (λ (y : BindingValue). packed y.space y.base) one.2) ∙ ap bound_read (sym (there one.0 n one.1).0)
+    pub read_name : (p : ℕ) → p ≡ packed v.space v.base → Ok (p, at + n) ≡ found_as name_of (binding_behind s at)
+    read_name p e =
+        let g : p ≡ name_of one.0 = e ∙ ap (λ (y : BindingValue). packed y.space y.base) one.2 in
+        rw g (as_got name_of (there one.0 n one.1).0)
 
-    module _ (e : Fault) (q : a ≡ as_binding.Fault e) where
-      wrong : (binding_behind s at ≡ bad (moved_fault at e)) × (at + e.place.offset ≤ length s)
-      wrong =
-          there_bad (λ (e : List Binding). binding_behind) (λ e. binding_walks spaces (λ S b. is_among earlier (packed S b))) s [] at h e (binding_bad (binding_behind (rest s at) 0) a e found q)
+  module _ (e : Fault) (q : Err e ≡ found_as binding_value (binding_behind (rest s at) 0)) where
+    wrong : (binding_behind s at ≡ bad (moved_fault at e)) × (at + e.place.offset ≤ length s)
+    wrong = there_bad (λ (e : List Binding). binding_behind) (λ e. binding_walks spaces (λ S b. is_among earlier (packed S b))) s [] at h e (found_bad binding_value (binding_behind (rest s at) 0) q)
 
-      pub wrong_within : at + e.place.offset ≤ length s
-      wrong_within = wrong.1
+    pub wrong_within : at + e.place.offset ≤ length s
+    wrong_within = wrong.1
 
-      pub wrong_name : (g : Fault) → g ≡ moved_fault at e → the_bound.Fault g ≡ bound_read (binding_behind s at)
-      wrong_name g m = ap the_bound.Fault m ∙ ap bound_read (sym wrong.0)
+    pub wrong_name : Err (moved_fault at e) ≡ found_as name_of (binding_behind s at)
+    wrong_name = as_bad name_of wrong.0
 
 -- ---- the loop
 module _ (spaces : ℕ) where
@@ -205,7 +189,7 @@ module _ (spaces : ℕ) (walks : (earlier : List Binding) → Walks (binding_nex
     abbrev pub BindingsKept : List Binding → Type 0
     BindingsKept l = Kept name_of names l × Standing (binding_record spaces unbound) s places l
 
-    pub binds_end : count ≤ i → Besides after_read BindingsKept (after.At at) (many (binding_next spaces) count [] s from)
+    pub binds_end : count ≤ i → Besides after BindingsKept (Ok at) (many (binding_next spaces) count [] s from)
     binds_end h = reading_end (binding_next spaces) walks s count from at i r.earlier r.reading BindingsKept (r.kept, r.standing) h
 
     module _ (few : count ≤ room) (fits : count ≤ much) (h : i < count) where
@@ -214,32 +198,32 @@ module _ (spaces : ℕ) (walks : (earlier : List Binding) → Walks (binding_nex
           ap (λ (n : ℕ). is_among (take n names) (packed S b)) (sym r.reading.going.read) ∙ ap (λ (l : List ℕ). is_among l (packed S b)) r.kept.same
           ∙ among_bound S b g r.earlier r.bases
 
-      module _ (a : Bound) (found : a ≡ bound_read (binding_record spaces (λ S b. is_among (take i names) (packed S b)) s at)) where
-        as_bound : a ≡ bound_read (binding_next spaces r.earlier s at)
-        as_bound = found ∙ ap bound_read (same_bound spaces (λ S b. is_among (take i names) (packed S b)) (is_bound r.earlier) s at among)
+      -- The same, with the names as they are kept.
+      same : binding_record spaces (λ S b. is_among (take i names) (packed S b)) s at ≡ binding_next spaces r.earlier s at
+      same = same_bound spaces (λ S b. is_among (take i names) (packed S b)) (is_bound r.earlier) s at among
 
-        -- A fault ends the loop.
-        pub binds_bad : (e : Fault) → a ≡ the_bound.Fault e → Besides after_read BindingsKept (after.Fault e) (many (binding_next spaces) count [] s from)
-        binds_bad e q = reading_stop (binding_next spaces) walks s count from at i r.earlier r.reading h BindingsKept e (bound_bad (binding_next spaces r.earlier s at) a e as_bound q)
+      -- A fault ends the loop.
+      pub binds_bad : (e : Fault) → Err e ≡ found_as name_of (binding_record spaces (λ S b. is_among (take i names) (packed S b)) s at) → Besides after BindingsKept (Err e) (many (binding_next spaces) count [] s from)
+      binds_bad e q = reading_stop (binding_next spaces) walks s count from at i r.earlier r.reading h BindingsKept e (found_bad name_of (binding_next spaces r.earlier s at) (q ∙ ap (found_as name_of) same))
 
-        -- With one binding more, its name kept and marked, and its place kept.
-        pub binds_on : (p next : ℕ) (later : List ℕ) → a ≡ the_bound.Name p next → later ≡ set marks (mark_of p) 1
-            → Binds count from room much wide (set names i p) (set places i at) later next (i + 1)
-        binds_on p next later q m = more (bound_got (binding_next spaces r.earlier s at) a p next as_bound q)
-          where
-            more : (x : Binding) × (binding_next spaces r.earlier s at ≡ got x next) × (p ≡ name_of x) → Binds count from room much wide (set names i p) (set places i at) later next (i + 1)
-            more (x, f, g) =
-                let k : i ≡ length r.earlier = sym r.reading.going.read in
-                record {
-                  size = length-set names i p ∙ r.size;
-                  many = length-set places i at ∙ r.many;
-                  breadth = ap length m ∙ length-set marks (mark_of p) 1 ∙ r.breadth;
-                  earlier = r.earlier ▷ x;
-                  reading = reading_next (binding_next spaces) walks s count from at i r.earlier r.reading h x next f;
-                  kept = subst (λ (j : ℕ). Kept name_of (set names j p) (r.earlier ▷ x)) (sym k) (kept_more name_of names r.earlier x p (omega (arith, k, r.size)) g r.kept);
-                  bases = and r.earlier x r.bases (binding_within spaces (is_bound r.earlier) s at x next f).1;
-                  standing = subst (λ (j : ℕ). Standing (binding_record spaces unbound) s (set places j at) (r.earlier ▷ x)) (sym k)
-                      (standing_more (binding_record spaces unbound) s places r.earlier x at next (omega (arith, k, r.many)) r.reading.within
-                      (reads_free spaces (is_bound r.earlier) unbound s at x next refl f) r.standing);
-                  marked = subst (λ (n : List ℕ). Marked n (take (i + 1) (set names i p))) (sym m) (marked_on marks names i p (omega (arith, r.size)) r.marked);
-                }
+      -- With one binding more, its name kept and marked, and its place kept.
+      pub binds_on : (p next : ℕ) (later : List ℕ) → Ok (p, next) ≡ found_as name_of (binding_record spaces (λ S b. is_among (take i names) (packed S b)) s at) → later ≡ set marks (mark_of p) 1
+          → Binds count from room much wide (set names i p) (set places i at) later next (i + 1)
+      binds_on p next later q m = more (found_got name_of (binding_next spaces r.earlier s at) (q ∙ ap (found_as name_of) same))
+        where
+          more : (x : Binding) × (binding_next spaces r.earlier s at ≡ got x next) × (p ≡ name_of x) → Binds count from room much wide (set names i p) (set places i at) later next (i + 1)
+          more (x, f, g) =
+              let k : i ≡ length r.earlier = sym r.reading.going.read in
+              record {
+                size = length-set names i p ∙ r.size;
+                many = length-set places i at ∙ r.many;
+                breadth = ap length m ∙ length-set marks (mark_of p) 1 ∙ r.breadth;
+                earlier = r.earlier ▷ x;
+                reading = reading_next (binding_next spaces) walks s count from at i r.earlier r.reading h x next f;
+                kept = subst (λ (j : ℕ). Kept name_of (set names j p) (r.earlier ▷ x)) (sym k) (kept_more name_of names r.earlier x p (omega (arith, k, r.size)) g r.kept);
+                bases = and r.earlier x r.bases (binding_within spaces (is_bound r.earlier) s at x next f).1;
+                standing = subst (λ (j : ℕ). Standing (binding_record spaces unbound) s (set places j at) (r.earlier ▷ x)) (sym k)
+                    (standing_more (binding_record spaces unbound) s places r.earlier x at next (omega (arith, k, r.many)) r.reading.within
+                    (reads_free spaces (is_bound r.earlier) unbound s at x next refl f) r.standing);
+                marked = subst (λ (n : List ℕ). Marked n (take (i + 1) (set names i p))) (sym m) (marked_on marks names i p (omega (arith, r.size)) r.marked);
+              }

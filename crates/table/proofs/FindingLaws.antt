@@ -1,9 +1,10 @@
 -- The space and the binding whose number was found first in a row.
 use mathlib.Core.Path.{◌≡◌, sym, ◌∙◌, ap, ap₂, subst}
 use mathlib.Core.List.{List, [], ◌∷◌, map}
-use Prim.Native.Nat.{ℕ, ◌<◌, ◌≤◌}
+use Prim.Native.Nat.{ℕ, ◌<◌}
 use native.Mathlib.Omega.{arith}
 use lib.ListN.{length, get_or, length-map, get_or-map}
+use Rattle.std.specs.Prelude.{Option, Some, None, MatchOption}
 use Rattle.rules.specs.Lists.{At}
 use Rattle.rules.specs.Tables.{Binding}
 use Rattle.rules.specs.Names.{opener}
@@ -11,10 +12,8 @@ use Rattle.rules.specs.declared.Key.{Key}
 use Rattle.rules.specs.declared.Space.{Space}
 use Rattle.rules.proofs.ListsLaws.{get_or_any, at_get_or, at_reads}
 use Rattle.records.specs.Bindings.{packed}
-use Rattle.records.specs.Rows.{First}
+use Rattle.records.specs.Rows.{Passed, First}
 use Rattle.table.specs.Finding.{FindsSpace, has, nobody, FindsBinding, opens, nothing, keys_of, Names}
-use Rattle.table.specs.declared.finding.SpaceFound.TheVariants as space
-use Rattle.table.specs.declared.finding.BindingFound.TheVariants as binding
 use Rattle.table.specs.Kept.{name_of}
 
 -- ---- spaces
@@ -25,14 +24,14 @@ module _ (keys : List ℕ) (k : Key) where
       let e : get_or (keys_of keys) i (record { 0 = 0 }) ≡ k = at_reads a (record { 0 = 0 }) in
       (omega (arith, a.there), ap (λ (x : Key). x.0) (sym (get_or-map {B = Key} (λ (n : ℕ). record { 0 = n }) keys i 0) ∙ e))
 
-  pub space_here : (i : ℕ) → i < length keys → get_or keys i 0 ≡ k.0 → FindsSpace (keys_of keys) k (space.Space (record { 0 = i }))
+  pub space_here : (i : ℕ) → i < length keys → get_or keys i 0 ≡ k.0 → FindsSpace (keys_of keys) k (Some (record { 0 = i }))
   space_here i h e =
       let g : length (keys_of keys) ≡ length keys = length-map keys (λ (n : ℕ). record { 0 = n }) in
       let a : At (keys_of keys) i (get_or (keys_of keys) i (record { 0 = 0 })) = at_get_or (keys_of keys) i (record { 0 = 0 }) (omega arith) in
       has (record { 0 = i }) (record { at = subst (λ (x : Key). At (keys_of keys) i x) (get_or-map {B = Key} (λ (n : ℕ). record { 0 = n }) keys i 0 ∙ ap (λ (n : ℕ). record { 0 = n }) e) a })
 
-  pub space_nowhere : (i : ℕ) → First keys k.0 i → length keys ≤ i → FindsSpace (keys_of keys) k space.None
-  space_nowhere i f h = nobody (λ S s. let w = key_there S.0 s.at in f.passed.others S.0 (omega (arith, w.0)) w.1)
+  pub space_nowhere : Passed keys k.0 (length keys) → FindsSpace (keys_of keys) k None
+  space_nowhere p = nobody (λ S s. let w = key_there S.0 s.at in p.others S.0 w.0 w.1)
 
 -- ---- bindings
 -- There is an element below the length.
@@ -55,15 +54,20 @@ module _ (names : List ℕ) (T : Space) (b : ℕ) (below : b < 65536) where
         let s : x.space.0 ≡ T.0 = omega (arith, e, g) in
         (ap (λ (n : ℕ). record { 0 = n }) s, omega (arith, e, g))
 
-    pub binding_here : (i : ℕ) → i < length names → get_or names i 0 ≡ packed T b → FindsBinding l T b (binding.Binding i)
+    pub binding_here : (i : ℕ) → i < length names → get_or names i 0 ≡ packed T b → FindsBinding l T b (Some i)
     unfolding opener
     binding_here i h e = go (at_below l i (omega (arith, ap length kept.same, length-map l name_of)))
       where
-        go : (x : Binding) × At l i x → FindsBinding l T b (binding.Binding i)
+        go : (x : Binding) × At l i x → FindsBinding l T b (Some i)
         go (x, a) =
             let w = same_name x i a (sym (name_at i x a).1 ∙ e) in
             opens i x.target (record { at = subst (λ (y : Binding). At l i y) (ap₂ (λ (S : Space) (c : ℕ). record { space = S; base = c; target = x.target }) w.0 w.1) a })
 
-    pub binding_nowhere : (i : ℕ) → First names (packed T b) i → length names ≤ i → FindsBinding l T b binding.None
+    pub binding_nowhere : Passed names (packed T b) (length names) → FindsBinding l T b None
     unfolding opener
-    binding_nowhere i f h = nothing (λ j g o. let w = name_at j (record { space = T; base = b; target = g }) o.at in f.passed.others j (omega (arith, w.0)) w.1)
+    binding_nowhere p = nothing (λ j g o. let w = name_at j (record { space = T; base = b; target = g }) o.at in p.others j w.0 w.1)
+
+    -- The first of that name, or none.
+    pub binding_first : (r : Option ℕ) → MatchOption r (Passed names (packed T b) (length names)) (λ i. First names (packed T b) i) → FindsBinding l T b r
+    binding_first None p = binding_nowhere p
+    binding_first (Some i) f = binding_here i f.there f.here

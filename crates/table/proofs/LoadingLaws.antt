@@ -6,15 +6,15 @@ use native.Mathlib.Omega.{arith}
 use native.Mathlib.Nat.{add-zero}
 use lib.ListN.{length, take, drop, length-drop}
 use Rattle.rules.specs.Lists.{◌▷◌}
+use Rattle.std.specs.Prelude.{Result, Ok, Err, IsErrAnd}
+use Rattle.std.proofs.lemmas.Result.{err_from_is_err_and}
 use Rattle.wire.proofs.PartsLaws.{rest_of}
-use Rattle.records.specs.Parsed.{Parsed, got, bad, Reader, moved_fault, moved_by}
+use Rattle.records.specs.Parsed.{Parsed, got, bad, Reader, moved_fault, moved_by, after}
 use Rattle.records.specs.Many.{many}
 use Rattle.records.specs.declared.faults.Fault.{Fault}
 use Rattle.records.proofs.FormatLaws.{Walks}
 use Rattle.records.proofs.ManyLaws.{Going, going_start, going_on, going_bad, going_end}
-use Rattle.table.specs.Sections.{after_read}
 use Rattle.table.specs.Kept.{IfGood}
-use Rattle.table.specs.declared.loading.After.TheVariants as after
 
 -- ---- an answer, and what holds besides if all is well
 module _ {A R : Type 0} (as_answer : Parsed A → R) (K : A → Type 0) (r : R) (p : Parsed A) where
@@ -27,8 +27,13 @@ module _ {A R : Type 0} (as_answer : Parsed A → R) (K : A → Type 0) (r : R) 
   pub well : (x : A) (at : ℕ) → p ≡ got x at → K x → r ≡ as_answer p → Besides
   well x at g k e = (e, λ y n q. let h : ◌≡◌ {A = Parsed A} (got x at) (got y n) = sym g ∙ q in let i : x ≡ y = cc h in subst K i k)
 
-pub after_apart : {A : Type 0} (f : Fault) (l : List A) (at : ℕ) → after.Fault f ≡ after_read (got l at) → ⊥
+pub after_apart : {A : Type 0} (f : Fault) (l : List A) (at : ℕ) → Err f ≡ after (got l at) → ⊥
 after_apart f l at e = let z : ◌≡◌ {A = ℕ} 0 1 = cc in absurd (omega arith)
+
+-- A fault that is passed on, with what holds besides.
+pub besides_passed : {A R : Type 0} (as_answer : Parsed A → Result R Fault) (K : A → Type 0) {p : Parsed A} {r : Result R Fault} {e : Fault} → IsErrAnd r (λ d. d ≡ e)
+    → Besides as_answer K (Err e) p → Besides as_answer K r p
+besides_passed as_answer K {r = r} h b = let q = err_from_is_err_and r h in (rw (q.1, q.2) b.0, b.1)
 
 -- The bytes from a place on, as code passes them.
 abbrev pub rest : List ℕ → ℕ → List ℕ
@@ -74,10 +79,10 @@ module _ {A : Type 0} (P : List A → Reader A) (walks : (earlier : List A) → 
       reading_next x next e = record { most = omega arith; within = ((walks earlier).ends x s at next r.within e).1; going = going_on P s count from i at earlier r.going h x next e }
 
       -- With the fault that is found at the place.
-      pub reading_stop : (K : List A → Type 0) (e : Fault) → P earlier s at ≡ bad e → Besides after_read K (after.Fault e) (many P count [] s from)
-      reading_stop K e q = ill after_read K (after.Fault e) (many P count [] s from) (after_apart e) (ap after_read (sym (going_bad P s count from i at earlier r.going h e q)))
+      pub reading_stop : (K : List A → Type 0) (e : Fault) → P earlier s at ≡ bad e → Besides after K (Err e) (many P count [] s from)
+      reading_stop K e q = ill after K (Err e) (many P count [] s from) (after_apart e) (ap after (sym (going_bad P s count from i at earlier r.going h e q)))
 
-    pub reading_end : (K : List A → Type 0) → K earlier → count ≤ i → Besides after_read K (after.At at) (many P count [] s from)
+    pub reading_end : (K : List A → Type 0) → K earlier → count ≤ i → Besides after K (Ok at) (many P count [] s from)
     reading_end K k h =
         let e = going_end P s count from i at earlier r.going h in
-        well after_read K (after.At at) (many P count [] s from) earlier at e k (ap after_read (sym e))
+        well after K (Ok at) (many P count [] s from) earlier at e k (ap after (sym e))

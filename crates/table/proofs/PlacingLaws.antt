@@ -1,35 +1,29 @@
 -- Records of a section in a loop, of which the places are kept.
-use mathlib.Core.Path.{◌≡◌, refl, sym, ◌∙◌, ap, subst}
+use mathlib.Core.Path.{◌≡◌, refl, sym, ◌∙◌, subst}
 use mathlib.Core.List.{List, []}
 use Prim.Native.Nat.{ℕ, ◌+◌, ◌<◌, ◌≤◌}
 use native.Mathlib.Omega.{arith}
 use lib.ListN.{length, set, length-set}
+use Rattle.std.specs.Prelude.{Ok, Err}
 use Rattle.rules.specs.Lists.{◌▷◌}
-use Rattle.records.specs.Parsed.{got, bad, Reader, moved_fault}
+use Rattle.records.specs.Parsed.{got, bad, Reader, moved_fault, after}
 use Rattle.records.specs.Many.{many}
 use Rattle.records.specs.declared.faults.Fault.{Fault}
 use Rattle.records.proofs.FormatLaws.{Walks}
-use Rattle.table.specs.Sections.{after_read, after_fault}
 use Rattle.table.specs.Kept.{Standing}
-use Rattle.table.specs.declared.loading.After.{After}
-use Rattle.table.specs.declared.loading.After.TheVariants as after
-use Rattle.table.proofs.AnswersLaws.{after_got, after_told}
+use Rattle.table.proofs.AnswersLaws.{after_got, after_bad, as_after, as_fault}
 use Rattle.table.proofs.LoadingLaws.{Besides, rest, there_got, there_bad, Reading, reading_start, reading_next, reading_stop, reading_end}
 use Rattle.table.proofs.KeptLaws.{standing_none, standing_more}
 
 -- ---- one record, as code finds it from the rest of the bytes
 module _ {A : Type 0} (P : Reader A) (walks : Walks P) (s : List ℕ) (at : ℕ) (h : at ≤ length s) where
   -- A record that the rest begins with stands at the place.
-  pub goes_after : (x : A) (n : ℕ) → P (rest s at) 0 ≡ got x n → (after.At (at + n) ≡ after_read (P s at)) × (at + n ≤ length s)
-  goes_after x n e = let w = there_got (λ e. P) (λ e. walks) s [] at h x n e in (ap after_read (sym w.0), w.1)
+  pub goes_after : (x : A) (n : ℕ) → P (rest s at) 0 ≡ got x n → (Ok (at + n) ≡ after (P s at)) × (at + n ≤ length s)
+  goes_after x n e = let w = there_got (λ e. P) (λ e. walks) s [] at h x n e in (as_after w.0, w.1)
 
-  -- A fault of the rest is one of the whole, seen from its beginning.
-  pub stops_after : (e g : Fault) → P (rest s at) 0 ≡ bad e → g ≡ moved_fault at e → after.Fault g ≡ after_read (P s at)
-  stops_after e g q m = ap after.Fault m ∙ ap after_read (sym (there_bad (λ e. P) (λ e. walks) s [] at h e q).0)
-
-  -- And its place is within the bytes.
-  pub stops_within : (e : Fault) → P (rest s at) 0 ≡ bad e → at + e.place.offset ≤ length s
-  stops_within e q = (there_bad (λ e. P) (λ e. walks) s [] at h e q).1
+  -- A fault of the rest is one of the whole, seen from its beginning; and its place is within the bytes.
+  pub stops_after : (e : Fault) → P (rest s at) 0 ≡ bad e → (Err (moved_fault at e) ≡ after (P s at)) × (at + e.place.offset ≤ length s)
+  stops_after e q = let w = there_bad (λ e. P) (λ e. walks) s [] at h e q in (as_fault w.0, w.1)
 
 -- ---- the loop
 module _ {A : Type 0} (P : Reader A) (walks : Walks P) (s : List ℕ) where
@@ -48,18 +42,17 @@ module _ {A : Type 0} (P : Reader A) (walks : Walks P) (s : List ℕ) where
   }
 
   module _ (count from room : ℕ) (places : List ℕ) (at i : ℕ) (r : Placing count from room places at i) where
-    pub placing_end : count ≤ i → Besides after_read (λ (l : List A). Standing P s places l) (after.At at) (many (λ e. P) count [] s from)
+    pub placing_end : count ≤ i → Besides after (λ (l : List A). Standing P s places l) (Ok at) (many (λ e. P) count [] s from)
     placing_end h = reading_end (λ e. P) (λ e. walks) s count from at i r.earlier r.reading (λ (l : List A). Standing P s places l) r.standing h
 
-    module _ (h : i < count) (a : After) (found : a ≡ after_read (P s at)) where
+    module _ (h : i < count) where
       -- A fault ends the loop.
-      pub placing_bad : (e g : Fault) → a ≡ after.Fault e → g ≡ after_fault a → Besides after_read (λ (l : List A). Standing P s places l) (after.Fault g) (many (λ e. P) count [] s from)
-      placing_bad e g q m =
-          reading_stop (λ e. P) (λ e. walks) s count from at i r.earlier r.reading h (λ (l : List A). Standing P s places l) g (after_told (P s at) a e g found q m)
+      pub placing_bad : (e : Fault) → Err e ≡ after (P s at) → Besides after (λ (l : List A). Standing P s places l) (Err e) (many (λ e. P) count [] s from)
+      placing_bad e q = reading_stop (λ e. P) (λ e. walks) s count from at i r.earlier r.reading h (λ (l : List A). Standing P s places l) e (after_bad (P s at) q)
 
       -- With one record more, and its place.
-      pub placing_on : (next : ℕ) → a ≡ after.At next → count ≤ room → Placing count from room (set places i at) next (i + 1)
-      placing_on next q few = more (after_got (P s at) a next found q)
+      pub placing_on : (next : ℕ) → Ok next ≡ after (P s at) → count ≤ room → Placing count from room (set places i at) next (i + 1)
+      placing_on next q few = more (after_got (P s at) q)
         where
           more : (x : A) × (P s at ≡ got x next) → Placing count from room (set places i at) next (i + 1)
           more (x, e) =

@@ -5,26 +5,21 @@ use mathlib.Core.List.{List, []}
 use Prim.Native.Nat.{ℕ, ◌+◌, ◌<◌, ◌≤◌}
 use native.Mathlib.Omega.{arith}
 use lib.ListN.{length, take, set, length-set}
+use Rattle.std.specs.Prelude.{Result, Ok, Err}
 use Rattle.rules.specs.Choice.{pick}
 use Rattle.rules.specs.Lists.{◌▷◌}
 use Rattle.rules.specs.declared.Key.{Key}
-use Rattle.records.specs.Parsed.{got, bad, fault_at}
-use Rattle.records.specs.Fields.{key_field, key_read, key_fault}
+use Rattle.records.specs.Parsed.{got, bad, fault_at, after}
+use Rattle.records.specs.Fields.{key_field}
 use Rattle.records.specs.Rows.{is_among}
 use Rattle.records.specs.Many.{many}
 use Rattle.records.specs.declared.faults.Kind.TheVariants as kind
 use Rattle.records.specs.declared.faults.Fault.{Fault}
-use Rattle.records.specs.declared.fields.KeyRead.{KeyRead}
-use Rattle.records.specs.declared.fields.KeyRead.TheVariants as as_key
 use Rattle.records.proofs.ParsedLaws.{got_then, bad_first}
 use Rattle.records.proofs.FormatLaws.{Walks, refused_walks}
 use Rattle.records.proofs.FieldsForm.{key_walks}
-use Rattle.records.proofs.FieldsLaws.{key_got, key_told}
 use Rattle.records.proofs.ManyLaws.{Going, going_start, going_on, going_bad, going_end}
-use Rattle.table.specs.Sections.{after_read}
 use Rattle.table.specs.ReadTable.{space_key, numbers}
-use Rattle.table.specs.declared.loading.After.{After}
-use Rattle.table.specs.declared.loading.After.TheVariants as after
 use Rattle.table.specs.Kept.{Kept, number_of}
 use Rattle.table.proofs.LoadingLaws.{Besides, ill, well, after_apart}
 use Rattle.table.proofs.KeptLaws.{kept_none, kept_more}
@@ -51,31 +46,31 @@ module _ (s : List ℕ) where
 
   module _ (count from room : ℕ) (keys : List ℕ) (at i : ℕ) (l : Spaced count from room keys at i) where
     -- What is answered, with what the keys hold if all is well.
-    abbrev pub Spaces : After → Type 0
-    Spaces r = Besides after_read (λ (e : List Key). Kept number_of keys e) r (many space_key count [] s from)
+    abbrev pub Spaces : Result ℕ Fault → Type 0
+    Spaces r = Besides after (λ (e : List Key). Kept number_of keys e) r (many space_key count [] s from)
 
-    failed : (f : Fault) → many space_key count [] s from ≡ bad f → Spaces (after.Fault f)
-    failed f e = ill after_read (λ (e : List Key). Kept number_of keys e) (after.Fault f) (many space_key count [] s from) (after_apart f) (ap after_read (sym e))
+    failed : (f : Fault) → many space_key count [] s from ≡ bad f → Spaces (Err f)
+    failed f e = ill after (λ (e : List Key). Kept number_of keys e) (Err f) (many space_key count [] s from) (after_apart f) (ap after (sym e))
 
-    pub spaced_end : count ≤ i → Spaces (after.At at)
+    pub spaced_end : count ≤ i → Spaces (Ok at)
     spaced_end h =
         let e = going_end space_key s count from i at l.earlier l.going h in
-        well after_read (λ (e : List Key). Kept number_of keys e) (after.At at) (many space_key count [] s from) l.earlier at e l.kept (ap after_read (sym e))
+        well after (λ (e : List Key). Kept number_of keys e) (Ok at) (many space_key count [] s from) l.earlier at e l.kept (ap after (sym e))
 
-    module _ (few : count ≤ room) (h : i < count) (r : KeyRead) (found : r ≡ key_read (key_field s at)) where
-      pub spaced_fails : (g f : Fault) → r ≡ as_key.Fault g → f ≡ key_fault r → Spaces (after.Fault f)
-      spaced_fails g f e q = failed f (going_bad space_key s count from i at l.earlier l.going h f (bad_first (key_field s at) _ (key_told (key_field s at) r g f found e q)))
+    module _ (few : count ≤ room) (h : i < count) where
+      pub spaced_fails : (f : Fault) → key_field s at ≡ bad f → Spaces (Err f)
+      spaced_fails f e = failed f (going_bad space_key s count from i at l.earlier l.going h f (bad_first (key_field s at) _ e))
 
-      module _ (k : Key) (next : ℕ) (e : r ≡ as_key.Key k next) where
+      module _ (k : Key) (next : ℕ) (e : key_field s at ≡ got k next) where
         -- The next key, as it is read, given whether an earlier space has it.
         key_next : (b : Bool) → b ≡ is_among (take i keys) k.0 → space_key l.earlier s at ≡ pick b (bad (fault_at kind.Twice at)) (got k next)
         key_next b q =
-            got_then (key_field s at) _ (key_got (key_field s at) r k next found e)
+            got_then (key_field s at) _ e
             ∙ ap (λ (c : Bool). pick c (bad (fault_at kind.Twice at)) (got k next))
             (sym (q ∙ ap (λ (n : ℕ). is_among (take n keys) k.0) (sym l.going.read) ∙ ap (λ (m : List ℕ). is_among m k.0) l.kept.same))
 
-        pub spaced_twice : (b : Bool) (f : Fault) → b ≡ is_among (take i keys) k.0 → b ≡ true → f ≡ fault_at kind.Twice at → Spaces (after.Fault f)
-        spaced_twice b f q t g = failed f (going_bad space_key s count from i at l.earlier l.going h (fault_at kind.Twice at) (key_next true (sym t ∙ q)) ∙ ap bad (sym g))
+        pub spaced_twice : (b : Bool) → b ≡ is_among (take i keys) k.0 → b ≡ true → Spaces (Err (fault_at kind.Twice at))
+        spaced_twice b q t = failed (fault_at kind.Twice at) (going_bad space_key s count from i at l.earlier l.going h (fault_at kind.Twice at) (key_next true (sym t ∙ q)))
 
         pub spaced_on : (b : Bool) → b ≡ is_among (take i keys) k.0 → b ≡ false → Spaced count from room (set keys i k.0) next (i + 1)
         spaced_on b q t =

@@ -4,30 +4,25 @@ use mathlib.Core.List.{List}
 use Prim.Native.Nat.{ℕ, ◌<◌, ◌≤◌}
 use native.Mathlib.Omega.{arith}
 use lib.ListN.{length}
+use Rattle.std.specs.Prelude.{Result, Ok, Err}
 use Rattle.rules.specs.Ranges.{most_spaces, most_bindings, most_accesses, most_delegations}
 use Rattle.rules.specs.Tables.{Binding, AccessRecord, Delegation}
 use Rattle.rules.specs.declared.Key.{Key}
-use Rattle.records.specs.Parsed.{got, bad, Reader, fault_at, ◌⟫◌}
-use Rattle.records.specs.Fields.{field_read, field_fault}
+use Rattle.records.specs.Parsed.{got, bad, Reader, fault_at, ◌⟫◌, found_as, after}
 use Rattle.records.specs.Bindings.{binding_record, is_bound}
 use Rattle.records.specs.Accesses.{access_record}
 use Rattle.records.specs.Delegations.{delegation_record}
 use Rattle.records.specs.declared.faults.Kind.TheVariants as kind
 use Rattle.records.specs.declared.faults.Fault.{Fault}
-use Rattle.records.specs.declared.fields.Field.{Field}
-use Rattle.records.specs.declared.fields.Field.TheVariants as as_field
-use Rattle.records.proofs.ParsedLaws.{got_then, bad_first}
-use Rattle.records.proofs.FieldsLaws.{field_got, field_told}
-use Rattle.table.specs.Sections.{version, Part, section, section_of, section_read, section_fault}
+use Rattle.records.proofs.ParsedLaws.{got_then, bad_first, found_got, found_bad}
+use Rattle.table.specs.Sections.{version, Part, section, section_of}
 use Rattle.table.specs.ReadTable.{most_table, space_key, Laid, table_fields, read_table, loaded_of}
 use Rattle.table.specs.declared.loading.Section.{Section}
-use Rattle.table.specs.declared.loading.SectionRead.{SectionRead}
-use Rattle.table.specs.declared.loading.SectionRead.TheVariants as as_section
 use Rattle.table.specs.Kept.{IfGood, Kept, Standing, number_of, name_of, unbound, Indexed}
-use Rattle.table.specs.declared.Loaded.{Loaded}
-use Rattle.table.specs.declared.Loaded.TheVariants as loaded
 use Rattle.table.proofs.LoadingLaws.{Besides, ill, well}
-use Rattle.table.proofs.SectionsLaws.{section_got, section_told, all_long, all_bad, all_got, all_more}
+use Rattle.table.proofs.SectionsLaws.{all_long, all_bad, all_got, all_more}
+use Rattle.table.proofs.AnswersLaws.{after_got, after_bad}
+use Rattle.table.specs.declared.Sections.{Sections}
 
 -- The next binding behind these, and so on.
 abbrev pub bindings_of : ℕ → List Binding → Reader Binding
@@ -39,135 +34,127 @@ accesses_of spaces earlier = access_record spaces
 abbrev pub delegations_of : ℕ → List Delegation → Reader Delegation
 delegations_of spaces earlier = delegation_record spaces
 
-loaded_apart : (f : Fault) (l : Laid) (at : ℕ) → loaded.Bad f ≡ loaded_of (got l at) → ⊥
+loaded_apart : (f : Fault) (l : Laid) (at : ℕ) → Err f ≡ loaded_of (got l at) → ⊥
 loaded_apart f l at e = let z : ◌≡◌ {A = ℕ} 0 1 = cc in absurd (omega arith)
 
 module _ (s keys names places access_places delegation_places : List ℕ) where
   -- What is answered, with what is kept if all is well.
-  abbrev pub Loads : Loaded → Type 0
+  abbrev pub Loads : Result Sections Fault → Type 0
   Loads r = Besides loaded_of (λ (l : Laid). Indexed s l keys names places access_places delegation_places) r (read_table s)
 
-  failed : (e : Fault) → read_table s ≡ bad e → Loads (loaded.Bad e)
-  failed e q = ill loaded_of (λ (l : Laid). Indexed s l keys names places access_places delegation_places) (loaded.Bad e) (read_table s) (loaded_apart e) (ap loaded_of (sym q))
+  failed : (e : Fault) → read_table s ≡ bad e → Loads (Err e)
+  failed e q = ill loaded_of (λ (l : Laid). Indexed s l keys names places access_places delegation_places) (Err e) (read_table s) (loaded_apart e) (ap loaded_of (sym q))
 
-  pub table_long : (e : Fault) → most_table < length s → e ≡ fault_at kind.Long 0 → Loads (loaded.Bad e)
+  pub table_long : most_table < length s → Loads (Err (fault_at kind.Long 0))
   unfolding read_table
-  table_long e h q = failed e (all_long table_fields most_table s h ∙ ap bad (sym q))
+  table_long h = failed (fault_at kind.Long 0) (all_long table_fields most_table s h)
 
   module _ (h : length s ≤ most_table) where
-    is_bad : (e : Fault) → table_fields s 0 ≡ bad e → Loads (loaded.Bad e)
+    is_bad : (e : Fault) → table_fields s 0 ≡ bad e → Loads (Err e)
     unfolding read_table
     is_bad e q = failed e (all_bad table_fields most_table s h e q)
 
-    module _ (r₀ : Field) (found₀ : r₀ ≡ field_read (version 1 s 0)) where
-      pub version_bad : (g f : Fault) → r₀ ≡ as_field.Fault g → f ≡ field_fault r₀ → Loads (loaded.Bad f)
+    pub version_bad : (f : Fault) → Err f ≡ after (version 1 s 0) → Loads (Err f)
+    unfolding table_fields
+    version_bad f e = is_bad f (bad_first (version 1 s 0) _ (after_bad (version 1 s 0) e))
+
+    module _ (a : ℕ) (e₀ : Ok a ≡ after (version 1 s 0)) where
+      zero_th : (v : ℕ) × (version 1 s 0 ≡ got v a)
+      zero_th = after_got (version 1 s 0) e₀
+
+      pub spaces_bad : (f : Fault) → Err f ≡ found_as section_of (section most_spaces space_key s a) → Loads (Err f)
       unfolding table_fields
-      version_bad g f e q = is_bad f (bad_first (version 1 s 0) _ (field_told (version 1 s 0) r₀ g f found₀ e q))
+      spaces_bad f e = is_bad f (got_then (version 1 s 0) _ zero_th.1 ∙ bad_first (section most_spaces space_key s a) _ (found_bad section_of (section most_spaces space_key s a) e))
 
-      module _ (v a : ℕ) (e₀ : r₀ ≡ as_field.Value v a) (r₁ : SectionRead) (found₁ : r₁ ≡ section_read (section most_spaces space_key s a)) where
-        zero_th : version 1 s 0 ≡ got v a
-        zero_th = field_got (version 1 s 0) r₀ v a found₀ e₀
+      module _ (x₁ : Section) (b : ℕ) (e₁ : Ok (x₁, b) ≡ found_as section_of (section most_spaces space_key s a)) where
+        first : (p : Part Key) × (section most_spaces space_key s a ≡ got p b) × (x₁ ≡ section_of p)
+        first = found_got section_of (section most_spaces space_key s a) e₁
 
-        pub spaces_bad : (g f : Fault) → r₁ ≡ as_section.Fault g → f ≡ section_fault r₁ → Loads (loaded.Bad f)
-        unfolding table_fields
-        spaces_bad g f e q =
-            is_bad f (got_then (version 1 s 0) _ zero_th ∙ bad_first (section most_spaces space_key s a) _ (section_told (section most_spaces space_key s a) r₁ g f found₁ e q))
+        spaces : ℕ
+        spaces = length first.0.records
 
-        module _ (x₁ : Section) (b : ℕ) (e₁ : r₁ ≡ as_section.Section x₁ b) (r₂ : SectionRead) (found₂ : r₂ ≡ section_read (section most_bindings (bindings_of x₁.count) s b)) where
-          first : (p : Part Key) × (section most_spaces space_key s a ≡ got p b) × (section_of p ≡ x₁)
-          first = section_got (section most_spaces space_key s a) r₁ x₁ b found₁ e₁
+        counted : x₁.count ≡ spaces
+        unfolding spaces
+        counted = ap (λ (x : Section). x.count) first.2
 
-          spaces : ℕ
-          spaces = length first.0.records
+        -- What names and places hold, if the bindings are well.
+        abbrev pub BindingsKept : ℕ → Type 0
+        BindingsKept n = IfGood (section most_bindings (bindings_of n) s b) (λ (l : Part Binding). Kept name_of names l.records × Standing (binding_record n unbound) s places l.records)
 
-          counted : x₁.count ≡ spaces
-          unfolding spaces
-          counted = ap (λ (x : Section). x.count) (sym first.2)
+        -- What follows the spaces.
+        on_bindings : Reader Laid
+        on_bindings s at =
+            section most_bindings (bindings_of spaces) s at ⟫ λ bindings at.
+            section most_accesses (accesses_of spaces) s at ⟫ λ accesses at.
+            section most_delegations (delegations_of spaces) s at ⟫ λ delegations at.
+            got (record { spaces = first.0; bindings = bindings; accesses = accesses; delegations = delegations }) at
 
-          -- What names and places hold, if the bindings are well.
-          abbrev pub BindingsKept : ℕ → Type 0
-          BindingsKept n = IfGood (section most_bindings (bindings_of n) s b) (λ (l : Part Binding). Kept name_of names l.records × Standing (binding_record n unbound) s places l.records)
+        to_bindings : table_fields s 0 ≡ on_bindings s b
+        unfolding table_fields on_bindings spaces
+        to_bindings = got_then (version 1 s 0) _ zero_th.1 ∙ got_then (section most_spaces space_key s a) _ first.1
 
-          known₂ : r₂ ≡ section_read (section most_bindings (bindings_of spaces) s b)
-          known₂ = found₂ ∙ ap (λ (n : ℕ). section_read (section most_bindings (bindings_of n) s b)) counted
+        pub bindings_bad : (f : Fault) → Err f ≡ found_as section_of (section most_bindings (bindings_of x₁.count) s b) → Loads (Err f)
+        unfolding on_bindings
+        bindings_bad f e =
+            is_bad f (to_bindings ∙ bad_first (section most_bindings (bindings_of spaces) s b) _
+            (found_bad section_of (section most_bindings (bindings_of spaces) s b) (e ∙ ap (λ (n : ℕ). found_as section_of (section most_bindings (bindings_of n) s b)) counted)))
 
-          -- What follows the spaces.
-          on_bindings : Reader Laid
-          on_bindings s at =
-              section most_bindings (bindings_of spaces) s at ⟫ λ bindings at.
-              section most_accesses (accesses_of spaces) s at ⟫ λ accesses at.
-              section most_delegations (delegations_of spaces) s at ⟫ λ delegations at.
-              got (record { spaces = first.0; bindings = bindings; accesses = accesses; delegations = delegations }) at
+        module _ (x₂ : Section) (c : ℕ) (e₂ : Ok (x₂, c) ≡ found_as section_of (section most_bindings (bindings_of x₁.count) s b)) where
+          second : (p : Part Binding) × (section most_bindings (bindings_of spaces) s b ≡ got p c) × (x₂ ≡ section_of p)
+          second = found_got section_of (section most_bindings (bindings_of spaces) s b) (e₂ ∙ ap (λ (n : ℕ). found_as section_of (section most_bindings (bindings_of n) s b)) counted)
 
-          to_bindings : table_fields s 0 ≡ on_bindings s b
-          unfolding table_fields on_bindings spaces
-          to_bindings = got_then (version 1 s 0) _ zero_th ∙ got_then (section most_spaces space_key s a) _ first.1
+          abbrev pub AccessesKept : ℕ → Type 0
+          AccessesKept n = IfGood (section most_accesses (accesses_of n) s c) (λ (l : Part AccessRecord). Standing (access_record n) s access_places l.records)
 
-          pub bindings_bad : (g f : Fault) → r₂ ≡ as_section.Fault g → f ≡ section_fault r₂ → Loads (loaded.Bad f)
+          pub accesses_bad : (f : Fault) → Err f ≡ found_as section_of (section most_accesses (accesses_of x₁.count) s c) → Loads (Err f)
           unfolding on_bindings
-          bindings_bad g f e q = is_bad f (to_bindings ∙ bad_first (section most_bindings (bindings_of spaces) s b) _ (section_told (section most_bindings (bindings_of spaces) s b) r₂ g f known₂ e q))
+          accesses_bad f e =
+              is_bad f (to_bindings ∙ got_then (section most_bindings (bindings_of spaces) s b) _ second.1 ∙ bad_first (section most_accesses (accesses_of spaces) s c) _
+              (found_bad section_of (section most_accesses (accesses_of spaces) s c) (e ∙ ap (λ (n : ℕ). found_as section_of (section most_accesses (accesses_of n) s c)) counted)))
 
-          module _ (x₂ : Section) (c : ℕ) (e₂ : r₂ ≡ as_section.Section x₂ c) (r₃ : SectionRead) (found₃ : r₃ ≡ section_read (section most_accesses (accesses_of x₁.count) s c)) where
-            second : (p : Part Binding) × (section most_bindings (bindings_of spaces) s b ≡ got p c) × (section_of p ≡ x₂)
-            second = section_got (section most_bindings (bindings_of spaces) s b) r₂ x₂ c known₂ e₂
+          module _ (x₃ : Section) (d : ℕ) (e₃ : Ok (x₃, d) ≡ found_as section_of (section most_accesses (accesses_of x₁.count) s c)) where
+            third : (p : Part AccessRecord) × (section most_accesses (accesses_of spaces) s c ≡ got p d) × (x₃ ≡ section_of p)
+            third = found_got section_of (section most_accesses (accesses_of spaces) s c) (e₃ ∙ ap (λ (n : ℕ). found_as section_of (section most_accesses (accesses_of n) s c)) counted)
 
-            abbrev pub AccessesKept : ℕ → Type 0
-            AccessesKept n = IfGood (section most_accesses (accesses_of n) s c) (λ (l : Part AccessRecord). Standing (access_record n) s access_places l.records)
+            abbrev pub DelegationsKept : ℕ → Type 0
+            DelegationsKept n = IfGood (section most_delegations (delegations_of n) s d) (λ (l : Part Delegation). Standing (delegation_record n) s delegation_places l.records)
 
-            known₃ : r₃ ≡ section_read (section most_accesses (accesses_of spaces) s c)
-            known₃ = found₃ ∙ ap (λ (n : ℕ). section_read (section most_accesses (accesses_of n) s c)) counted
-
-            pub accesses_bad : (g f : Fault) → r₃ ≡ as_section.Fault g → f ≡ section_fault r₃ → Loads (loaded.Bad f)
+            pub delegations_bad : (f : Fault) → Err f ≡ found_as section_of (section most_delegations (delegations_of x₁.count) s d) → Loads (Err f)
             unfolding on_bindings
-            accesses_bad g f e q =
-                is_bad f (to_bindings ∙ got_then (section most_bindings (bindings_of spaces) s b) _ second.1
-                ∙ bad_first (section most_accesses (accesses_of spaces) s c) _ (section_told (section most_accesses (accesses_of spaces) s c) r₃ g f known₃ e q))
+            delegations_bad f e =
+                is_bad f (to_bindings ∙ got_then (section most_bindings (bindings_of spaces) s b) _ second.1 ∙ got_then (section most_accesses (accesses_of spaces) s c) _ third.1
+                ∙ bad_first (section most_delegations (delegations_of spaces) s d) _
+                (found_bad section_of (section most_delegations (delegations_of spaces) s d) (e ∙ ap (λ (n : ℕ). found_as section_of (section most_delegations (delegations_of n) s d)) counted)))
 
-            module _ (x₃ : Section) (d : ℕ) (e₃ : r₃ ≡ as_section.Section x₃ d) (r₄ : SectionRead) (found₄ : r₄ ≡ section_read (section most_delegations (delegations_of x₁.count) s d)) where
-              third : (p : Part AccessRecord) × (section most_accesses (accesses_of spaces) s c ≡ got p d) × (section_of p ≡ x₃)
-              third = section_got (section most_accesses (accesses_of spaces) s c) r₃ x₃ d known₃ e₃
+            module _ (x₄ : Section) (end : ℕ) (e₄ : Ok (x₄, end) ≡ found_as section_of (section most_delegations (delegations_of x₁.count) s d)) where
+              fourth : (p : Part Delegation) × (section most_delegations (delegations_of spaces) s d ≡ got p end) × (x₄ ≡ section_of p)
+              fourth = found_got section_of (section most_delegations (delegations_of spaces) s d) (e₄ ∙ ap (λ (n : ℕ). found_as section_of (section most_delegations (delegations_of n) s d)) counted)
 
-              abbrev pub DelegationsKept : ℕ → Type 0
-              DelegationsKept n = IfGood (section most_delegations (delegations_of n) s d) (λ (l : Part Delegation). Standing (delegation_record n) s delegation_places l.records)
+              laid : Laid
+              laid = record { spaces = first.0; bindings = second.0; accesses = third.0; delegations = fourth.0 }
 
-              known₄ : r₄ ≡ section_read (section most_delegations (delegations_of spaces) s d)
-              known₄ = found₄ ∙ ap (λ (n : ℕ). section_read (section most_delegations (delegations_of n) s d)) counted
+              all_read : table_fields s 0 ≡ got laid end
+              unfolding on_bindings laid
+              all_read =
+                  to_bindings ∙ got_then (section most_bindings (bindings_of spaces) s b) _ second.1 ∙ got_then (section most_accesses (accesses_of spaces) s c) _ third.1
+                  ∙ got_then (section most_delegations (delegations_of spaces) s d) _ fourth.1
 
-              pub delegations_bad : (g f : Fault) → r₄ ≡ as_section.Fault g → f ≡ section_fault r₄ → Loads (loaded.Bad f)
-              unfolding on_bindings
-              delegations_bad g f e q =
-                  is_bad f (to_bindings ∙ got_then (section most_bindings (bindings_of spaces) s b) _ second.1 ∙ got_then (section most_accesses (accesses_of spaces) s c) _ third.1
-                  ∙ bad_first (section most_delegations (delegations_of spaces) s d) _ (section_told (section most_delegations (delegations_of spaces) s d) r₄ g f known₄ e q))
+              pub table_more : (end ≡ length s → ⊥) → Loads (Err (fault_at kind.Extra end))
+              unfolding read_table
+              table_more n = failed (fault_at kind.Extra end) (all_more table_fields most_table s h laid end all_read n)
 
-              module _ (x₄ : Section) (end : ℕ) (e₄ : r₄ ≡ as_section.Section x₄ end) where
-                fourth : (p : Part Delegation) × (section most_delegations (delegations_of spaces) s d ≡ got p end) × (section_of p ≡ x₄)
-                fourth = section_got (section most_delegations (delegations_of spaces) s d) r₄ x₄ end known₄ e₄
-
-                laid : Laid
-                laid = record { spaces = first.0; bindings = second.0; accesses = third.0; delegations = fourth.0 }
-
-                all_read : table_fields s 0 ≡ got laid end
-                unfolding on_bindings laid
-                all_read =
-                    to_bindings ∙ got_then (section most_bindings (bindings_of spaces) s b) _ second.1 ∙ got_then (section most_accesses (accesses_of spaces) s c) _ third.1
-                    ∙ got_then (section most_delegations (delegations_of spaces) s d) _ fourth.1
-
-                pub table_more : (f : Fault) → (end ≡ length s → ⊥) → f ≡ fault_at kind.Extra end → Loads (loaded.Bad f)
-                unfolding read_table
-                table_more f n q = failed f (all_more table_fields most_table s h laid end all_read n ∙ ap bad (sym q))
-
-                pub table_found : IfGood (section most_spaces space_key s a) (λ (l : Part Key). Kept number_of keys l.records) → BindingsKept x₁.count → AccessesKept x₁.count → DelegationsKept x₁.count
-                    → end ≡ length s → Loads (loaded.Good (record { spaces = x₁; bindings = x₂; accesses = x₃; delegations = x₄ }))
-                unfolding read_table laid spaces
-                table_found k₁ k₂ k₃ k₄ n =
-                    let g = all_got table_fields most_table s h laid end all_read n in
-                    let w = subst BindingsKept counted k₂ second.0 c second.1 in
-                    well loaded_of (λ (l : Laid). Indexed s l keys names places access_places delegation_places) (loaded.Good (record { spaces = x₁; bindings = x₂; accesses = x₃; delegations = x₄ })) (read_table s) laid end g
-                    (record {
-                      spaces = k₁ first.0 b first.1;
-                      names = w.0;
-                      bindings = w.1;
-                      accesses = subst AccessesKept counted k₃ third.0 d third.1;
-                      delegations = subst DelegationsKept counted k₄ fourth.0 end fourth.1;
-                    })
-                    (rw (sym first.2, sym second.2, sym third.2, sym fourth.2) (ap loaded_of (sym g)))
+              pub table_found : IfGood (section most_spaces space_key s a) (λ (l : Part Key). Kept number_of keys l.records) → BindingsKept x₁.count → AccessesKept x₁.count → DelegationsKept x₁.count
+                  → end ≡ length s → Loads (Ok (record { spaces = x₁; bindings = x₂; accesses = x₃; delegations = x₄ }))
+              unfolding read_table laid spaces
+              table_found k₁ k₂ k₃ k₄ n =
+                  let g = all_got table_fields most_table s h laid end all_read n in
+                  let w = subst BindingsKept counted k₂ second.0 c second.1 in
+                  well loaded_of (λ (l : Laid). Indexed s l keys names places access_places delegation_places) (Ok (record { spaces = x₁; bindings = x₂; accesses = x₃; delegations = x₄ })) (read_table s) laid end g
+                  (record {
+                    spaces = k₁ first.0 b first.1;
+                    names = w.0;
+                    bindings = w.1;
+                    accesses = subst AccessesKept counted k₃ third.0 d third.1;
+                    delegations = subst DelegationsKept counted k₄ fourth.0 end fourth.1;
+                  })
+                  (rw (first.2, second.2, third.2, fourth.2) (ap loaded_of (sym g)))

@@ -1,5 +1,5 @@
 -- A table: version 1, then the spaces, bindings, access records and delegations. At most 32,768 bytes.
-use Rattle.std.specs.Prelude.{List, [], ◌++◌, map, ℕ, length}
+use Rattle.std.specs.Prelude.{List, [], ◌++◌, map, ℕ, length, Result, Ok, Err}
 use Rattle.rules.specs.Choice.{pick}
 use Rattle.rules.specs.Ranges.{most_spaces, most_bindings, most_accesses, most_delegations}
 use Rattle.rules.specs.Tables.{Binding, AccessRecord, Delegation, Table}
@@ -13,10 +13,9 @@ use Rattle.records.specs.Rows.{is_among}
 use Rattle.records.specs.Accesses.{access_record, access_bytes}
 use Rattle.records.specs.Delegations.{delegation_record, delegation_bytes}
 use Rattle.records.specs.declared.faults.Kind.TheVariants as kind
+use Rattle.records.specs.declared.faults.Fault.{Fault}
 use Rattle.table.specs.Sections.{version, Part, section, all_of, section_of}
 use Rattle.table.specs.declared.Sections.{Sections}
-use Rattle.table.specs.declared.Loaded.{Loaded}
-use Rattle.table.specs.declared.Loaded.TheVariants as loaded
 
 abbrev pub most_table : ℕ
 most_table = 32768
@@ -82,6 +81,6 @@ sections_of l = record {
   delegations = section_of l.delegations;
 }
 
-abbrev pub loaded_of : Parsed Laid → Loaded
-loaded_of (got l at) = loaded.Good (sections_of l)
-loaded_of (bad e) = loaded.Bad e
+abbrev pub loaded_of : Parsed Laid → Result Sections Fault
+loaded_of (got l at) = Ok (sections_of l)
+loaded_of (bad e) = Err e

@@ -7,11 +7,9 @@ ghost use Rattle.table.specs.ReadTable.{read_table, loaded_of};
 ghost use Rattle.table.specs.Kept.{IfGood, Indexed};
 
 use crate::loading::{
-    Section, SectionRead, load_accesses, load_bindings, load_delegations, load_spaces,
-    read_version, section_fault,
+    Section, load_accesses, load_bindings, load_delegations, load_spaces, read_version,
 };
 use records::faults::{Fault, Kind, fault_at};
-use records::fields::{Field, field_fault};
 
 pub mod finding;
 pub mod loading;
@@ -19,7 +17,7 @@ pub mod loading;
 pub const MOST_TABLE: usize = 32768;
 
 // How many records of each kind there are, and where the first of each begins.
-#[derive(Clone, Copy)]
+#[derive(Clone, Copy, PartialEq, Eq)]
 pub struct Sections {
     pub spaces: Section,
     pub bindings: Section,
@@ -27,14 +25,8 @@ pub struct Sections {
     pub delegations: Section,
 }
 
-#[derive(Clone, Copy)]
-pub enum Loaded {
-    Good(Sections),
-    Bad(Fault),
-}
-
 // Reads the table whole.
-pub fn load(table: &[u8]) -> Loaded
+pub fn load(table: &[u8]) -> Result<Sections, Fault>
     ensures { result ≡ loaded_of (read_table table.now) }
 {
     let mut keys = [0; 64];
@@ -60,43 +52,28 @@ pub fn load_index(
     bindings: &mut [u16],
     accesses: &mut [u16],
     delegations: &mut [u16],
-) -> Loaded
+) -> Result<Sections, Fault>
     requires { (most_spaces ≤ length keys.old) × (most_bindings ≤ length names.old) × (most_bindings ≤ length bindings.old) × (most_accesses ≤ length accesses.old) × (most_delegations ≤ length delegations.old) }
     ensures read { result ≡ loaded_of (read_table table.now) }
     ensures kept { IfGood (read_table table.now)
         (λ l. Indexed table.now l keys.new names.new bindings.new accesses.new delegations.new) }
 {
     if MOST_TABLE < table.len() {
-        return Loaded::Bad(fault_at(Kind::Long, 0));
+        return Err(fault_at(Kind::Long, 0));
     }
-    let version = read_version(table, 1);
-    let Field::Value(_, at1) = version else {
-        return Loaded::Bad(field_fault(version));
-    };
-    let first = load_spaces(table, at1, keys);
-    let SectionRead::Section(spaces, at2) = first else {
-        return Loaded::Bad(section_fault(first));
-    };
+    let at1 = read_version(table, 1)?;
+    let (spaces, at2) = load_spaces(table, at1, keys)?;
     // The row of the delegations waits its turn, and serves to mark names till then.
-    let second = load_bindings(table, at2, spaces.count, names, bindings, delegations);
-    let SectionRead::Section(binding_section, at3) = second else {
-        return Loaded::Bad(section_fault(second));
-    };
-    let third = load_accesses(table, at3, spaces.count, accesses);
-    let SectionRead::Section(access_section, at4) = third else {
-        return Loaded::Bad(section_fault(third));
-    };
-    let fourth = load_delegations(table, at4, spaces.count, delegations);
-    let SectionRead::Section(delegation_section, end) = fourth else {
-        return Loaded::Bad(section_fault(fourth));
-    };
-    if end == table.len() {
-        return Loaded::Good(Sections {
-            spaces,
-            bindings: binding_section,
-            accesses: access_section,
-            delegations: delegation_section,
-        });
+    let (bound, at3) = load_bindings(table, at2, spaces.count, names, bindings, delegations)?;
+    let (given, at4) = load_accesses(table, at3, spaces.count, accesses)?;
+    let (handed, end) = load_delegations(table, at4, spaces.count, delegations)?;
+    if end != table.len() {
+        return Err(fault_at(Kind::Extra, end));
     }
-    Loaded::Bad(fault_at(Kind::Extra, end))
+    Ok(Sections {
+        spaces,
+        bindings: bound,
+        accesses: given,
+        delegations: handed,
+    })
 }

@@ -2,8 +2,8 @@
 use Rattle.table.proofs.FindingLaws.{space_here, space_nowhere}
 use Rattle.table.proofs.finding.find_space.Goals as goal
 
-pub returns-then-i-keys : goal.returns-then-i-keys
-returns-then-i-keys c = space_here c.args.keys.now _ _ c.if-i-keys.true (c.find_first-i.ensures.here c.if-i-keys.true)
+pub returns-in_err-number : goal.returns-in_err-number
+returns-in_err-number c = rw c.from_residual.ensures (space_nowhere _ _ c.in_err-number.ensures)
 
 pub returns : goal.returns
-returns c = space_nowhere _ _ _ c.find_first-i.ensures c.if-i-keys.false
+returns c = space_here c.args.keys.now _ _ c.in_ok-number.ensures.there c.in_ok-number.ensures.here

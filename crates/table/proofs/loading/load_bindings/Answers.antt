@@ -1,16 +1,20 @@
 -- `load_bindings` judges the count, then reads so many records.
 use native.Mathlib.Omega.{arith}
+use Rattle.records.specs.Parsed.{found_as}
+use Rattle.records.proofs.ParsedLaws.{same_got, same_bad}
+use Rattle.table.specs.Sections.{section_of}
+use Rattle.table.proofs.LoadingLaws.{besides_passed}
 use Rattle.table.proofs.SectionsLaws.{count_few, count_within, section_fails, records_fail, section_found}
 use Rattle.table.proofs.loading.load_bindings.Goals as goal
 
-pub returns-in_default : goal.returns-in_default
-returns-in_default c = let both = section_fails _ _ _ _ _ c.read_field-header.ensures _ _ _ c.in_default.is c.field_fault.ensures in record { read = both.0; kept = both.1 }
+pub returns-in_err-number : goal.returns-in_err-number
+returns-in_err-number c = let both = besides_passed (found_as section_of) _ c.from_residual.ensures.1 (section_fails _ _ _ _ _ _ (same_bad _ c.in_err-number.ensures)) in record { read = both.0; kept = both.1 }
 
-pub read_bindings-rest-requires : goal.read_bindings-rest-requires
-read_bindings-rest-requires c = let n = count_few _ _ _ _ _ _ c.read_field-header.ensures c.in-Value.is in (omega (arith, n, c.requires.0), omega (arith, n, c.requires.1), c.requires.2, count_within _ _ _ _ _ _ c.read_field-header.ensures c.in-Value.is c.requires.3, c.requires.4, c.requires.5)
+pub read_bindings-requires : goal.read_bindings-requires
+read_bindings-requires c = let n = count_few _ _ _ _ _ (same_got _ c.in_ok-number.ensures) in (omega (arith, n, c.requires.0), omega (arith, n, c.requires.1), c.requires.2, count_within _ _ _ _ _ (same_got _ c.in_ok-number.ensures) c.requires.3, c.requires.4, c.requires.5)
 
-pub returns-in_default-rest : goal.returns-in_default-rest
-returns-in_default-rest c = let both = records_fail _ _ _ _ _ c.read_field-header.ensures _ _ _ c.in-Value.is _ c.read_bindings-rest.ensures.read _ _ c.in_default-rest.is c.after_fault.ensures in record { read = both.0; kept = both.1 }
+pub returns-in_err-at : goal.returns-in_err-at
+returns-in_err-at c = let both = besides_passed (found_as section_of) _ c.from_residual-in_err-at.ensures.1 (records_fail _ _ _ _ _ _ _ (same_got _ c.in_ok-number.ensures) _ c.in_err-at.ensures.read) in record { read = both.0; kept = both.1 }
 
 pub returns : goal.returns
-returns c = let both = section_found _ _ _ _ _ c.read_field-header.ensures _ _ _ c.in-Value.is _ c.read_bindings-rest.ensures.read _ c.in-At.is c.read_bindings-rest.ensures.kept in record { read = both.0; kept = both.1 }
+returns c = let both = section_found _ _ _ _ _ _ _ (same_got _ c.in_ok-number.ensures) _ c.in_ok-at.ensures.read c.in_ok-at.ensures.kept in record { read = both.0; kept = both.1 }

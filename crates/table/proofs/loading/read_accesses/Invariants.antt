@@ -1,5 +1,4 @@
 -- `read_accesses` goes on as `many` of them does, and keeps their places.
-use Prim.Native.Nat.{◌-◌}
 use lib.ListN.{length}
 use Rattle.records.specs.Accesses.{access_record}
 use Rattle.records.proofs.RecordsForm.{access_walks}
@@ -8,6 +7,3 @@ use Rattle.table.proofs.loading.read_accesses.Given as goal
 
 abbrev pub invariant-loop-i : goal.invariant-loop-i
 invariant-loop-i l = Placing (access_record l.spaces) (access_walks l.spaces) l.table l.count l.from (length l.initial.places) l.places l.at l.i
-
-abbrev pub decreases-loop-i : goal.decreases-loop-i
-decreases-loop-i l = l.count - l.i

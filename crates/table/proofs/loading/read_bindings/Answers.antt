@@ -2,6 +2,8 @@
 use mathlib.Core.Path.{sym}
 use native.Mathlib.Omega.{arith}
 use lib.Seq.{length-take-le}
+use Rattle.records.specs.Parsed.{after}
+use Rattle.table.proofs.LoadingLaws.{besides_passed}
 use Rattle.table.proofs.BindingsLaws.{binds_start, binds_bad, binds_on, binds_end}
 use Rattle.table.proofs.loading.read_bindings.Goals as goal
 
@@ -30,10 +32,10 @@ pub bounds-places-i : goal.bounds-places-i
 bounds-places-i c = omega (arith, c.loop-i-test.true, c.requires.1, c.loop-i.invariant.many)
 
 pub loop-i-preserved : goal.loop-i-preserved
-loop-i-preserved c = binds_on _ _ _ _ _ _ _ _ _ _ _ _ _ c.loop-i.invariant c.requires.0 c.requires.1 c.loop-i-test.true _ c.after_binding.ensures _ _ _ c.in-Name.is c.mark.ensures
+loop-i-preserved c = binds_on _ _ _ _ _ _ _ _ _ _ _ _ _ c.loop-i.invariant c.requires.0 c.requires.1 c.loop-i-test.true _ _ _ c.in_ok-name.ensures c.mark.ensures
 
-pub returns-in-Fault : goal.returns-in-Fault
-returns-in-Fault c = let both = binds_bad _ _ _ _ _ _ _ _ _ _ _ _ _ c.loop-i.invariant c.requires.0 c.requires.1 c.loop-i-test.true _ c.after_binding.ensures _ c.in-Fault.is in record { read = both.0; kept = both.1 }
+pub returns-in_err-name : goal.returns-in_err-name
+returns-in_err-name c = let both = besides_passed after _ c.from_residual.ensures.1 (binds_bad _ _ _ _ _ _ _ _ _ _ _ _ _ c.loop-i.invariant c.requires.0 c.requires.1 c.loop-i-test.true _ c.in_err-name.ensures) in record { read = both.0; kept = both.1 }
 
 pub returns : goal.returns
 returns c = let both = binds_end _ _ _ _ _ _ _ _ _ _ _ _ _ c.loop-i.invariant c.loop-i-test.false in record { read = both.0; kept = both.1 }

@@ -1,16 +1,18 @@
 -- `read_delegations` goes on as `many` of them does, and keeps their places.
 use native.Mathlib.Omega.{arith}
+use Rattle.records.specs.Parsed.{after}
+use Rattle.table.proofs.LoadingLaws.{besides_passed}
 use Rattle.table.proofs.PlacingLaws.{placing_start, placing_bad, placing_on, placing_end}
 use Rattle.table.proofs.loading.read_delegations.Goals as goal
 
 pub loop-i-init : goal.loop-i-init
 loop-i-init c = placing_start _ _ _ _ _ _ c.requires.1
 
-pub after_delegation-found-requires : goal.after_delegation-found-requires
-after_delegation-found-requires c = (c.loop-i.invariant.reading.within, c.requires.2)
+pub after_delegation-requires : goal.after_delegation-requires
+after_delegation-requires c = (c.loop-i.invariant.reading.within, c.requires.2)
 
-pub returns-in_default : goal.returns-in_default
-returns-in_default c = let both = placing_bad _ _ _ _ _ _ _ _ _ c.loop-i.invariant c.loop-i-test.true _ c.after_delegation-found.ensures _ _ c.in_default.is c.after_fault.ensures in record { read = both.0; kept = both.1 }
+pub returns-in_err-next : goal.returns-in_err-next
+returns-in_err-next c = let both = besides_passed after _ c.from_residual.ensures.1 (placing_bad _ _ _ _ _ _ _ _ _ c.loop-i.invariant c.loop-i-test.true _ c.in_err-next.ensures) in record { read = both.0; kept = both.1 }
 
 pub overflow_cast-places : goal.overflow_cast-places
 overflow_cast-places c = omega (arith, c.loop-i.invariant.reading.within, c.requires.2)
@@ -19,7 +21,7 @@ pub bounds-places-i : goal.bounds-places-i
 bounds-places-i c = omega (arith, c.loop-i-test.true, c.requires.0, c.loop-i.invariant.size)
 
 pub loop-i-preserved : goal.loop-i-preserved
-loop-i-preserved c = placing_on _ _ _ _ _ _ _ _ _ c.loop-i.invariant c.loop-i-test.true _ c.after_delegation-found.ensures _ c.in-At.is c.requires.0
+loop-i-preserved c = placing_on _ _ _ _ _ _ _ _ _ c.loop-i.invariant c.loop-i-test.true _ c.in_ok-next.ensures c.requires.0
 
 pub returns : goal.returns
 returns c = let both = placing_end _ _ _ _ _ _ _ _ _ c.loop-i.invariant c.loop-i-test.false in record { read = both.0; kept = both.1 }

@@ -1,5 +1,4 @@
 -- `read_delegations` goes on as `many` of them does, and keeps their places.
-use Prim.Native.Nat.{◌-◌}
 use lib.ListN.{length}
 use Rattle.records.specs.Delegations.{delegation_record}
 use Rattle.records.proofs.RecordsForm.{delegation_walks}
@@ -8,6 +7,3 @@ use Rattle.table.proofs.loading.read_delegations.Given as goal
 
 abbrev pub invariant-loop-i : goal.invariant-loop-i
 invariant-loop-i l = Placing (delegation_record l.spaces) (delegation_walks l.spaces) l.table l.count l.from (length l.initial.places) l.places l.at l.i
-
-abbrev pub decreases-loop-i : goal.decreases-loop-i
-decreases-loop-i l = l.count - l.i
