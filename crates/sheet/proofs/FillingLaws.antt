@@ -21,7 +21,8 @@ use Rattle.rules.proofs.FollowingLaws.{target_more}
 use Rattle.rules.proofs.SheetsLaws.{filling_start, filling_step, rest_exact}
 use Rattle.rules.proofs.RoundsLaws.{empty_set, none_empty}
 use Rattle.table.proofs.FindingLaws.{at_below}
-use Rattle.sheet.specs.Listings.{Known, Opening, Listing, Quiet, Turn, more, same, Round, Filled}
+use Rattle.sheet.specs.Known.{Known}
+use Rattle.sheet.specs.Listings.{Opening, Listing, Quiet, Turn, more, same, Round, Filled}
 use Rattle.sheet.specs.declared.following.Walked.{Walked}
 use Rattle.sheet.specs.declared.following.Walked.TheVariants as walked
 use Rattle.sheet.proofs.WalksLaws.{walks_key}

@@ -2,6 +2,7 @@
 use mathlib.Core.Path.{◌≡◌, refl, sym, ◌∙◌, ap, subst}
 use mathlib.Core.List.{List, [], ◌∷◌}
 use mathlib.Core.Option.{some-injective}
+use Rattle.std.specs.Prelude.{Option, Some, None}
 use Prim.Native.Nat.{ℕ, zero, suc, ◌-◌, ◌<◌, ◌≤◌}
 use native.Mathlib.Omega.{arith}
 use lib.ListN.{length, take, get_or, length-map}
@@ -24,15 +25,13 @@ use Rattle.table.specs.declared.finding.SpaceFound.TheVariants as space
 use Rattle.table.specs.declared.finding.BindingFound.{BindingFound}
 use Rattle.table.specs.declared.finding.BindingFound.TheVariants as binding
 use Rattle.sheet.specs.Finds.{Finds, key, nothing, Index, Fitting, FittingTarget, rest_of}
-use Rattle.sheet.specs.declared.following.Followed.{Followed}
-use Rattle.sheet.specs.declared.following.Followed.TheVariants as followed
 
 -- ---- what was found
-pub finds_key : {P : Key → Type 0} {r : Followed} {k : Key} → Finds P r → r ≡ followed.Key k → P k
+pub finds_key : {P : Key → Type 0} {r : Option Key} {k : Key} → Finds P r → r ≡ Some k → P k
 finds_key {P} {k = k} (key m v) e = let q : m ≡ k = cc in subst P q v
 finds_key (nothing f) e = let z : ◌≡◌ {A = ℕ} 0 1 = cc in absurd (omega arith)
 
-pub finds_none : {P : Key → Type 0} {r : Followed} → Finds P r → r ≡ followed.Nothing → (k : Key) → P k → ⊥
+pub finds_none : {P : Key → Type 0} {r : Option Key} → Finds P r → r ≡ None → (k : Key) → P k → ⊥
 finds_none (key m v) e k w = let z : ◌≡◌ {A = ℕ} 0 1 = cc in absurd (omega arith)
 finds_none (nothing f) e k w = f k w
 

@@ -14,7 +14,7 @@ use Rattle.table.specs.ReadTable.{Laid, table_of, table_in, read_table, table_at
 use Rattle.table.specs.Kept.{Standing, Indexed, number_of, name_of, unbound}
 use Rattle.table.specs.Finding.{keys_of}
 use Rattle.table.proofs.Theorems.{table_form}
-use Rattle.sheet.specs.Listings.{Known}
+use Rattle.sheet.specs.Known.{Known}
 
 pub table_at_lem : (s : List ℕ) (l : Laid) (end : ℕ) → read_table s ≡ got l end → table_at s ≡ table_of l
 unfolding table_at

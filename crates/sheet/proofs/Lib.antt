@@ -1,7 +1,6 @@
 -- Laws of the name sheet.
 pub mod FindsLaws
 pub mod WalksLaws
-pub mod ClearedLaws
 pub mod MeaningLaws
 pub mod FillingLaws
 pub mod WaitingLaws

@@ -2,6 +2,7 @@
 use mathlib.Core.Path.{◌≡◌, refl, sym, ◌∙◌, ap, subst}
 use mathlib.Core.List.{List, [], ◌∷◌}
 use Prim.Native.Nat.{ℕ, zero, suc, ◌<◌, ◌≤◌}
+use Rattle.std.specs.Prelude.{Option}
 use native.Mathlib.Omega.{arith}
 use lib.ListN.{length, take, get_or, length-map}
 use Rattle.rules.specs.Lists.{At}
@@ -24,8 +25,8 @@ use Rattle.table.proofs.LoadingLaws.{rest, there_back}
 use Rattle.table.proofs.FindingLaws.{at_below}
 use Rattle.sheet.specs.Finds.{Index, Fitting, FittingTarget}
 use Rattle.sheet.specs.Walks.{Walks, for_now}
-use Rattle.sheet.specs.Listings.{Known, Opening, Leading}
-use Rattle.sheet.specs.declared.following.Followed.{Followed}
+use Rattle.sheet.specs.Known.{Known}
+use Rattle.sheet.specs.Listings.{Opening, Leading}
 use Rattle.sheet.specs.declared.following.Walked.{Walked}
 use Rattle.sheet.proofs.WalksLaws.{found_now}
 
@@ -107,5 +108,5 @@ module _ (t : NameTable) (s keys names places : List ℕ) (known : Known t s key
       pub leads_so : (sheet : List ℕ) (a : Walked) → Walks t sheet (target_of v.target) a → Opening t sheet i a
       leads_so sheet a w = record { walks = λ x b. subst (λ (g : Target). Walks t sheet g a) (target_read_lem x b) w }
 
-pub leads_now : (t : NameTable) (sheet : List ℕ) (i : ℕ) (w : Walked) (r : Followed) → r ≡ for_now w → Opening t sheet i w → Leading t sheet i r
+pub leads_now : (t : NameTable) (sheet : List ℕ) (i : ℕ) (w : Walked) (r : Option Key) → r ≡ for_now w → Opening t sheet i w → Leading t sheet i r
 leads_now t sheet i w r e o = record { finds = λ x a. found_now t sheet x.target w r e (o.walks x a) }

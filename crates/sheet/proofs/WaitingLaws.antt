@@ -1,18 +1,21 @@
 -- What the bindings wait for, while the sheet is filled.
 use mathlib.Core.Path.{◌≡◌, sym, ◌∙◌, ap, subst}
-use mathlib.Core.Bool.{Bool, true, false}
+use mathlib.Core.Bool.{Bool, true, false, not}
 use mathlib.Core.List.{List}
 use Prim.Native.Nat.{ℕ, ◌+◌, ◌-◌, ◌<◌, ◌≤◌}
 use native.Mathlib.Omega.{arith}
 use native.Mathlib.Decide.{ℕ_discrete}
 use lib.ListN.{length, set, replicate, length-set, length-replicate, get_or-replicate}
 use lib.Seq.{get_or-set_same, get_or-set_other}
+use Rattle.std.proofs.Common.{eqb, eq-eqb}
+use Rattle.std.proofs.lemmas.Bool.{ne_eqb}
 use Rattle.rules.specs.Lists.{At}
 use Rattle.rules.specs.Tables.{Binding, NameTable}
 use Rattle.rules.specs.Sheets.{entry}
 use Rattle.table.proofs.FindingLaws.{at_below}
 use Rattle.sheet.specs.Walks.{Grown, Stopped}
-use Rattle.sheet.specs.Listings.{Known, Opening, Listing, Waiting, Rests, filled, waiting, due, Quiet}
+use Rattle.sheet.specs.Known.{Known}
+use Rattle.sheet.specs.Listings.{Opening, Listing, Waiting, Rests, filled, waiting, due, Quiet}
 use Rattle.sheet.specs.declared.following.Walked.{Walked}
 use Rattle.sheet.specs.declared.following.Walked.TheVariants as walked
 use Rattle.sheet.proofs.WalksLaws.{grown_none, stopped_on, walks_waits, walks_nothing}
@@ -21,8 +24,18 @@ use Rattle.sheet.proofs.FillingLaws.{entry_below, sheet_below}
 
 -- ---- the test
 module _ (sheet waits : List ℕ) (i : ℕ) where
-  pub rests_waiting : (w : ℕ) → w ≡ entry waits i → (w ≡ 0 → ⊥) → entry sheet (w - 1) ≡ 0 → Rests sheet waits i true
-  rests_waiting w e n z = let q : w ≡ w - 1 + 1 = omega (arith, n) in waiting (w - 1) (sym e ∙ q) z
+  pub rests_filled : (entry sheet i ≡ 0 → ⊥) → Rests sheet waits i (not (eqb (entry sheet i) 0))
+  rests_filled n = subst (Rests sheet waits i) (sym (ap not (ne_eqb (entry sheet i) 0 n))) (filled n)
+
+  pub rests_due : entry sheet i ≡ 0 → entry waits i ≡ 0 → Rests sheet waits i (not (eqb (entry waits i) 0))
+  rests_due z e = subst (Rests sheet waits i) (sym (ap not (eq-eqb (entry waits i) 0 e))) (due z)
+
+  pub rests_waiting : entry sheet i ≡ 0 → (entry waits i ≡ 0 → ⊥) → Rests sheet waits i (eqb (entry sheet (entry waits i - 1)) 0)
+  rests_waiting z n = go (ℕ_discrete (entry sheet (entry waits i - 1)) 0)
+    where
+      go : Dec (entry sheet (entry waits i - 1) ≡ 0) → Rests sheet waits i (eqb (entry sheet (entry waits i - 1)) 0)
+      go (yes e) = subst (Rests sheet waits i) (sym (eq-eqb (entry sheet (entry waits i - 1)) 0 e)) (waiting (entry waits i - 1) (omega (arith, n)) e)
+      go (no d) = subst (Rests sheet waits i) (sym (ne_eqb (entry sheet (entry waits i - 1)) 0 d)) (due z)
 
   pub rests_not : (r : Bool) → Rests sheet waits i r → r ≡ false → entry sheet i ≡ 0
   rests_not _ (filled n) e = let z : ◌≡◌ {A = ℕ} 0 1 = cc in absurd (omega arith)

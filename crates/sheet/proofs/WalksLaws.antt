@@ -3,6 +3,7 @@ use mathlib.Core.Path.{◌≡◌, refl, sym, ◌∙◌, ap, subst}
 use mathlib.Core.List.{List, ◌∷◌}
 use Prim.Native.Nat.{ℕ, ◌-◌, ◌<◌}
 use native.Mathlib.Omega.{arith}
+use Rattle.std.specs.Prelude.{Option}
 use native.Mathlib.Decide.{ℕ_discrete}
 use lib.ListN.{length, set, get_or}
 use lib.Seq.{get_or-set_other}
@@ -26,7 +27,6 @@ use Rattle.table.specs.declared.finding.BindingFound.TheVariants as binding
 use Rattle.sheet.specs.Finds.{Finds, Index, Fitting, rest_of}
 use Rattle.sheet.specs.Finds.{key as finds_key, nothing as finds_nothing}
 use Rattle.sheet.specs.Walks.{Grown, Stopped, Nowhere, Walks, key, waits, nothing, for_now}
-use Rattle.sheet.specs.declared.following.Followed.{Followed}
 use Rattle.sheet.specs.declared.following.Walked.{Walked}
 use Rattle.sheet.specs.declared.following.Walked.TheVariants as walked
 use Rattle.sheet.proofs.FindsLaws.{path_none, path_first, rest_fits, space_has, space_none, binding_opens, binding_none, own_key}
@@ -165,8 +165,8 @@ module _ (t : NameTable) (sheet : List ℕ) (g : Target) where
   walks_nothing _ (nothing s) e = s
 
 -- ---- for now
-pub found_now : (t : NameTable) (sheet : List ℕ) (g : Target) (w : Walked) (r : Followed) → r ≡ for_now w → Walks t sheet g w → Finds (TargetLeads t (InSheet t sheet) g) r
-found_now t sheet g w r e v = subst (λ (a : Followed). Finds (TargetLeads t (InSheet t sheet) g) a) (sym e) (go w v)
+pub found_now : (t : NameTable) (sheet : List ℕ) (g : Target) (w : Walked) (r : Option Key) → r ≡ for_now w → Walks t sheet g w → Finds (TargetLeads t (InSheet t sheet) g) r
+found_now t sheet g w r e v = subst (λ (a : Option Key). Finds (TargetLeads t (InSheet t sheet) g) a) (sym e) (go w v)
   where
     go : (w : Walked) → Walks t sheet g w → Finds (TargetLeads t (InSheet t sheet) g) (for_now w)
     go _ (key k l) = finds_key k l

@@ -1,5 +1,5 @@
 -- What following a path finds, with the index of a table: the keys of its spaces, and the names that its bindings bind.
-use Rattle.std.specs.Prelude.{◌≡◌, List, ℕ, ◌-◌, ◌<◌}
+use Rattle.std.specs.Prelude.{◌≡◌, Option, Some, None, List, ℕ, ◌-◌, ◌<◌}
 use Rattle.rules.specs.Tables.{NameTable}
 use Rattle.rules.specs.Ranges.{GoodNames}
 use Rattle.rules.specs.declared.Key.{Key}
@@ -7,13 +7,11 @@ use Rattle.records.specs.declared.paths.Path.{Path}
 use Rattle.records.specs.declared.targets.Target.{Target}
 use Rattle.records.specs.declared.targets.Target.TheVariants as target
 use Rattle.table.specs.Finding.{keys_of, Names}
-use Rattle.sheet.specs.declared.following.Followed.{Followed}
-use Rattle.sheet.specs.declared.following.Followed.TheVariants as followed
 
 -- A key that fits, or none does.
-pub data Finds (P : Key → Type 0) : Followed → Type 0 where
-  key : (k : Key) → P k → Finds P (followed.Key k)
-  nothing : ((k : Key) → P k → ⊥) → Finds P followed.Nothing
+pub data Finds (P : Key → Type 0) : Option Key → Type 0 where
+  key : (k : Key) → P k → Finds P (Some k)
+  nothing : ((k : Key) → P k → ⊥) → Finds P None
 
 -- The index of a good table.
 pub record Index (t : NameTable) (keys names : List ℕ) : Type 0 where

@@ -1,3 +1,4 @@
 pub mod Finds
 pub mod Walks
+pub mod Known
 pub mod Listings

@@ -1,34 +1,22 @@
 -- How code fills a sheet: the entries and their order, as they stand so far.
-use Rattle.std.specs.Prelude.{◌≡◌, Bool, true, false, List, ℕ, ◌+◌, ◌<◌, ◌≤◌, length, take, drop}
+use Rattle.std.specs.Prelude.{◌≡◌, Option, Bool, true, false, List, ℕ, ◌+◌, ◌<◌, ◌≤◌, length, take, drop}
 use Rattle.rules.specs.Lists.{At}
 use Rattle.rules.specs.Tables.{Binding, NameTable}
-use Rattle.rules.specs.Ranges.{most_spaces, most_bindings}
 use Rattle.rules.specs.Sheets.{entry, Exact}
 use Rattle.rules.specs.Following.{InSheet, TargetLeads}
 use Rattle.rules.specs.Filling.{Filling, AtRest}
 use Rattle.rules.specs.Rounds.{empty}
 use Rattle.rules.specs.declared.Key.{Key}
-use Rattle.records.specs.Bindings.{binding_record}
-use Rattle.table.specs.Kept.{Standing, unbound}
-use Rattle.sheet.specs.Finds.{Finds, Index}
+use Rattle.sheet.specs.Finds.{Finds}
 use Rattle.sheet.specs.Walks.{Stopped, Walks}
-use Rattle.sheet.specs.declared.following.Followed.{Followed}
 use Rattle.sheet.specs.declared.following.Walked.{Walked}
-
--- A table with its index, and where each of its bindings stands in its bytes.
-pub record Known (t : NameTable) (s keys names places : List ℕ) : Type 0 where
-  pub index : Index t keys names
-  pub few_spaces : length keys ≤ most_spaces
-  pub few_bindings : length names ≤ most_bindings
-  pub room : length names ≤ length places
-  pub standing : Standing (binding_record (length keys) unbound) s places t.bindings
 
 -- Where the target of binding number `i` leads.
 pub record Opening (t : NameTable) (sheet : List ℕ) (i : ℕ) (r : Walked) : Type 0 where
   pub walks : (x : Binding) → At t.bindings i x → Walks t sheet x.target r
 
 -- What is found of binding number `i`: the key that its target leads to, if any.
-pub record Leading (t : NameTable) (sheet : List ℕ) (i : ℕ) (r : Followed) : Type 0 where
+pub record Leading (t : NameTable) (sheet : List ℕ) (i : ℕ) (r : Option Key) : Type 0 where
   pub finds : (x : Binding) → At t.bindings i x → Finds (TargetLeads t (InSheet t sheet) x.target) r
 
 -- The first `n` of the order list the filled entries, of a sheet with one entry per binding.

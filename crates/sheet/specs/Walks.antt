@@ -1,11 +1,9 @@
 -- What a walk by a sheet finds, and what of it stays so while the sheet is filled further.
-use Rattle.std.specs.Prelude.{◌≡◌, List, ℕ, ◌<◌, length}
+use Rattle.std.specs.Prelude.{◌≡◌, Option, Some, None, List, ℕ, ◌<◌, length}
 use Rattle.rules.specs.Tables.{Target, NameTable}
 use Rattle.rules.specs.Sheets.{entry}
 use Rattle.rules.specs.Following.{InSheet, TargetLeads}
 use Rattle.rules.specs.declared.Key.{Key}
-use Rattle.sheet.specs.declared.following.Followed.{Followed}
-use Rattle.sheet.specs.declared.following.Followed.TheVariants as followed
 use Rattle.sheet.specs.declared.following.Walked.{Walked}
 use Rattle.sheet.specs.declared.following.Walked.TheVariants as walked
 
@@ -27,7 +25,7 @@ pub data Walks (t : NameTable) (sheet : List ℕ) (g : Target) : Walked → Type
   waits : (j : ℕ) → j < length t.bindings → entry sheet j ≡ 0 → Stopped t sheet g j → Walks t sheet g (walked.Waits j)
   nothing : Nowhere t sheet g → Walks t sheet g walked.Nothing
 
-abbrev pub for_now : Walked → Followed
-for_now (walked.Key k) = followed.Key k
-for_now (walked.Waits j) = followed.Nothing
-for_now walked.Nothing = followed.Nothing
+abbrev pub for_now : Walked → Option Key
+for_now (walked.Key k) = Some k
+for_now (walked.Waits j) = None
+for_now walked.Nothing = None

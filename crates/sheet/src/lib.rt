@@ -3,3 +3,4 @@
 
 pub mod filling;
 pub mod following;
+pub mod names;

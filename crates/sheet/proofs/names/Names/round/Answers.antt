@@ -2,16 +2,13 @@
 use mathlib.Core.Path.{refl, ◌∙◌}
 use native.Mathlib.Omega.{arith}
 use Rattle.sheet.proofs.FillingLaws.{round_start, round_on, round_end}
-use Rattle.sheet.proofs.filling.round.Goals as goal
+use Rattle.sheet.proofs.names.Names.round.Goals as goal
 
 pub loop-i-init : goal.loop-i-init
-loop-i-init c = (round_start _ _ _ _ c.requires.1, c.requires.2, refl, refl, refl)
+loop-i-init c = (round_start _ _ _ _ c.requires.0, c.requires.1, refl, refl, refl)
 
 pub fill_entry-n-requires : goal.fill_entry-n-requires
-fill_entry-n-requires c = (c.requires.0, c.loop-i.invariant.0.listing, c.loop-i.invariant.1, c.loop-i-test.true)
-
-pub overflow_add-i : goal.overflow_add-i
-overflow_add-i c = omega (arith, c.loop-i-test.true, c.type_inv.names 0)
+fill_entry-n-requires c = (c.loop-i.invariant.0.listing, c.loop-i.invariant.1, c.loop-i-test.true)
 
 pub loop-i-smaller : goal.loop-i-smaller
 loop-i-smaller c = omega (arith, c.loop-i-test.true)
