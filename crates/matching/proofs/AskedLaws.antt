@@ -17,7 +17,8 @@ use Rattle.records.proofs.RequestsForm.{request_form}
 use Rattle.table.specs.ReadTable.{table_at}
 use Rattle.sheet.specs.Finds.{FittingTarget}
 use Rattle.sheet.proofs.MeaningLaws.{index_spaces, target_fits, target_back}
-use Rattle.matching.specs.Matching.{asked_of, Held}
+use Rattle.matching.specs.Held.{Held}
+use Rattle.matching.specs.Matching.{asked_of}
 use Rattle.matching.proofs.MatchingLaws.{few_spaces_lem}
 
 -- ---- what the reader's answer says

@@ -18,9 +18,9 @@ use Rattle.table.specs.declared.Sections.{Sections}
 use Rattle.table.specs.declared.Loaded.{Loaded}
 use Rattle.table.specs.declared.Loaded.TheVariants as loaded
 use Rattle.table.proofs.Theorems.{table_form}
-use Rattle.sheet.specs.Listings.{Known}
+use Rattle.sheet.specs.Known.{Known}
 use Rattle.sheet.proofs.KnownLaws.{table_at_lem, good_table_lem, known_here}
-use Rattle.matching.specs.Matching.{Held}
+use Rattle.matching.specs.Held.{Held}
 
 -- What a good answer of `load_index` says.
 pub record Read (s : List ℕ) (v : Sections) : Type 0 where

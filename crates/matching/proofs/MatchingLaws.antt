@@ -4,6 +4,7 @@ use mathlib.Core.List.{List, []}
 use Prim.Native.Nat.{ℕ, ◌<◌, ◌≤◌}
 use native.Mathlib.Omega.{arith}
 use lib.ListN.{length, get_or}
+use Rattle.std.specs.Prelude.{Option, Some, None}
 use Rattle.rules.specs.Lists.{At}
 use Rattle.rules.specs.Tables.{Path, AccessRecord, Delegation, Asked, Table}
 use Rattle.rules.specs.Ranges.{GoodPath, most_spaces}
@@ -11,7 +12,6 @@ use Rattle.rules.specs.Names.{IsSelf}
 use Rattle.rules.specs.Following.{InSheet, NameLeads}
 use Rattle.rules.specs.declared.Key.{Key}
 use Rattle.rules.specs.declared.Space.{Space}
-use Rattle.rules.specs.declared.Depth.{Depth}
 use Rattle.rules.proofs.ListsLaws.{at_one}
 use Rattle.rules.proofs.NamesLaws.{self_one}
 use Rattle.records.specs.Parsed.{got, Reader}
@@ -34,38 +34,28 @@ use Rattle.table.specs.Kept.{Standing}
 use Rattle.table.proofs.LoadingLaws.{rest, there_back}
 use Rattle.table.proofs.FindingLaws.{at_below}
 use Rattle.sheet.specs.Finds.{Finds, Fitting}
-use Rattle.sheet.specs.declared.following.Followed.{Followed}
-use Rattle.sheet.specs.declared.following.Followed.TheVariants as followed
 use Rattle.sheet.proofs.FindsLaws.{own_key, finds_key, finds_none, leads_one}
 use Rattle.sheet.proofs.MeaningLaws.{path_fits, path_back, index_spaces}
-use Rattle.matching.specs.Matching.{told, asked_of, GivesTo, HandsOn, Gives, to, not_given, Hands, on, not_handed, Held}
+use Rattle.matching.specs.Matching.{told, asked_of, GivesTo, HandsOn, Gives, to, not_given, Hands, on, not_handed}
+use Rattle.matching.specs.Held.{Held}
 use Rattle.matching.specs.declared.Given.{Given}
-use Rattle.matching.specs.declared.Given.TheVariants as as_given
 use Rattle.matching.specs.declared.Handed.{Handed}
-use Rattle.matching.specs.declared.Handed.TheVariants as the_handed
 
 -- ---- what was found
-pub gives_to : {P : Key → ℕ → Type 0} {r : Given} {k : Key} {d : Depth} → Gives P r → r ≡ as_given.To k d → P k d.0
-gives_to {P} {k = k} {d = d} (to m b w) e =
-    let p : m ≡ k = cc in
-    let q : b ≡ d = cc in
-    subst (λ (x : Key). P x d.0) p (subst (λ (x : Depth). P m x.0) q w)
+pub gives_to : {P : Key → ℕ → Type 0} {r : Option Given} {g : Given} → Gives P r → r ≡ Some g → P g.to g.depth.0
+gives_to {P} {g = g} (to v w) e = let q : v ≡ g = cc in subst (λ (x : Given). P x.to x.depth.0) q w
 gives_to (not_given f) e = let z : ◌≡◌ {A = ℕ} 0 1 = cc in absurd (omega arith)
 
-pub gives_none : {P : Key → ℕ → Type 0} {r : Given} → Gives P r → r ≡ as_given.Nothing → (k : Key) (d : ℕ) → P k d → ⊥
-gives_none (to m b w) e k d p = let z : ◌≡◌ {A = ℕ} 0 1 = cc in absurd (omega arith)
+pub gives_none : {P : Key → ℕ → Type 0} {r : Option Given} → Gives P r → r ≡ None → (k : Key) (d : ℕ) → P k d → ⊥
+gives_none (to v w) e k d p = let z : ◌≡◌ {A = ℕ} 0 1 = cc in absurd (omega arith)
 gives_none (not_given f) e k d p = f k d p
 
-pub hands_on : {P : Space → Key → ℕ → Type 0} {r : Handed} {S : Space} {k : Key} {d : Depth} → Hands P r → r ≡ the_handed.On S k d → P S k d.0
-hands_on {P} {S = S} {k = k} {d = d} (on T m b w) e =
-    let o : T ≡ S = cc in
-    let p : m ≡ k = cc in
-    let q : b ≡ d = cc in
-    subst (λ (x : Space). P x k d.0) o (subst (λ (x : Key). P T x d.0) p (subst (λ (x : Depth). P T m x.0) q w))
+pub hands_on : {P : Space → Key → ℕ → Type 0} {r : Option Handed} {h : Handed} → Hands P r → r ≡ Some h → P h.writer h.to h.depth.0
+hands_on {P} {h = h} (on v w) e = let q : v ≡ h = cc in subst (λ (x : Handed). P x.writer x.to x.depth.0) q w
 hands_on (not_handed f) e = let z : ◌≡◌ {A = ℕ} 0 1 = cc in absurd (omega arith)
 
-pub hands_none : {P : Space → Key → ℕ → Type 0} {r : Handed} → Hands P r → r ≡ the_handed.Nothing → (S : Space) (k : Key) (d : ℕ) → P S k d → ⊥
-hands_none (on T m b w) e S k d p = let z : ◌≡◌ {A = ℕ} 0 1 = cc in absurd (omega arith)
+pub hands_none : {P : Space → Key → ℕ → Type 0} {r : Option Handed} → Hands P r → r ≡ None → (S : Space) (k : Key) (d : ℕ) → P S k d → ⊥
+hands_none (on v w) e S k d p = let z : ◌≡◌ {A = ℕ} 0 1 = cc in absurd (omega arith)
 hands_none (not_handed f) e S k d p = f S k d p
 
 -- ---- a record by its number
@@ -80,7 +70,7 @@ module _ (p : Path) (g : GoodPath p) (v : PathValue) (e : v ≡ path_value p) wh
   fits_so : Fitting v
   fits_so = subst Fitting (sym e) (path_fits p g)
 
-  leads_as : (t : Table) (sheet : List ℕ) (S : Space) (r : Followed) → Finds (NameLeads t.names (InSheet t.names sheet) S (path_of v)) r → Finds (told t sheet S p) r
+  leads_as : (t : Table) (sheet : List ℕ) (S : Space) (r : Option Key) → Finds (NameLeads t.names (InSheet t.names sheet) S (path_of v)) r → Finds (told t sheet S p) r
   leads_as t sheet S r w = subst (λ (q : Path). Finds (told t sheet S q) r) (ap path_of e ∙ path_back p g.short) w
 
 -- ---- access records
@@ -109,7 +99,7 @@ module _ (s keys names accesses delegations : List ℕ) (held : Held s keys name
         let y : ◌≡◌ {A = ℕ} 0 1 = cc in
         absurd (omega arith)
 
-    pub access_fault : (sheet : List ℕ) (q : Asked Space) (f : Fault) → r ≡ as_access.Fault f → Gives (GivesTo (table_at s) sheet q i) as_given.Nothing
+    pub access_fault : (sheet : List ℕ) (q : Asked Space) (f : Fault) → r ≡ as_access.Fault f → Gives (GivesTo (table_at s) sheet q i) None
     access_fault sheet q f e = absurd (access_never f e)
 
     module _ (v : Access) (n : ℕ) (e : r ≡ as_access.Access v n) where
@@ -130,35 +120,32 @@ module _ (s keys names accesses delegations : List ℕ) (held : Held s keys name
       )
 
       module _ (sheet : List ℕ) (owner : Space) (wanted : Use) where
-        abbrev pub AccessGives : Given → Type 0
+        abbrev pub AccessGives : Option Given → Type 0
         AccessGives a = Gives (GivesTo (table_at s) sheet (asked_of owner wanted) i) a
 
         -- A record that fits what is asked would be this one.
         same : {k : Key} {d : ℕ} (w : GivesTo (table_at s) sheet (asked_of owner wanted) i k d) → x ≡ record { owner = owner; object = wanted.object; right = wanted.right; path = w.name.path; depth = d }
         same w = at_one here w.lists.at
 
-        pub other_owner : (v.owner.0 ≡ owner.0 → ⊥) → AccessGives as_given.Nothing
-        other_owner f = not_given (λ k d w. f (ap (λ (y : Access). y.owner.0) is ∙ ap (λ (y : AccessRecord). y.owner.0) (same w)))
+        pub other_asked : (v.owner.0 ≡ owner.0 → v.wanted.object ≡ wanted.object → v.wanted.right ≡ wanted.right → ⊥) → AccessGives None
+        other_asked f = not_given (λ k d w. f
+            (ap (λ (y : Access). y.owner.0) is ∙ ap (λ (y : AccessRecord). y.owner.0) (same w))
+            (ap (λ (y : Access). y.wanted.object) is ∙ ap (λ (y : AccessRecord). y.object) (same w))
+            (ap (λ (y : Access). y.wanted.right) is ∙ ap (λ (y : AccessRecord). y.right) (same w)))
 
-        pub other_object : (v.wanted.object ≡ wanted.object → ⊥) → AccessGives as_given.Nothing
-        other_object f = not_given (λ k d w. f (ap (λ (y : Access). y.wanted.object) is ∙ ap (λ (y : AccessRecord). y.object) (same w)))
-
-        pub other_right : (v.wanted.right ≡ wanted.right → ⊥) → AccessGives as_given.Nothing
-        other_right f = not_given (λ k d w. f (ap (λ (y : Access). y.wanted.right) is ∙ ap (λ (y : AccessRecord). y.right) (same w)))
-
-        module _ (a : Followed) (end : Finds (NameLeads (table_at s).names (InSheet (table_at s).names sheet) v.owner (path_of v.path)) a) where
+        module _ (a : Option Key) (end : Finds (NameLeads (table_at s).names (InSheet (table_at s).names sheet) v.owner (path_of v.path)) a) where
           leads : Finds (told (table_at s) sheet x.owner x.path) a
           leads =
               leads_as x.path (held.good.accesses i x here).path v.path (ap (λ (y : Access). y.path) is) (table_at s) sheet x.owner a
               (subst (λ (S : Space). Finds (NameLeads (table_at s).names (InSheet (table_at s).names sheet) S (path_of v.path)) a) (ap (λ (y : Access). y.owner) is) end)
 
-          pub access_leads_nowhere : a ≡ followed.Nothing → AccessGives as_given.Nothing
+          pub access_leads_nowhere : a ≡ None → AccessGives None
           access_leads_nowhere g =
               not_given (λ k d w. finds_none leads g k
               (subst (λ (y : AccessRecord). told (table_at s) sheet y.owner y.path k) (sym (same w)) (subst (λ (S : Space). told (table_at s) sheet S w.name.path k) w.lists.of_owner w.leads)))
 
-          pub access_gives : (k : Key) → a ≡ followed.Key k → v.owner.0 ≡ owner.0 → v.wanted.object ≡ wanted.object → v.wanted.right ≡ wanted.right → AccessGives (as_given.To k v.depth)
-          access_gives k g o b c = to k v.depth (record { name = record { space = owner; path = x.path }; lists = record { of_owner = refl; at = at }; leads = from })
+          pub access_gives : (k : Key) → a ≡ Some k → v.owner.0 ≡ owner.0 → v.wanted.object ≡ wanted.object → v.wanted.right ≡ wanted.right → AccessGives (Some (record { to = k; depth = v.depth }))
+          access_gives k g o b c = to (record { to = k; depth = v.depth }) (record { name = record { space = owner; path = x.path }; lists = record { of_owner = refl; at = at }; leads = from })
             where
               o' : x.owner ≡ owner
               o' = λ z. record { 0 = (sym (ap (λ (y : Access). y.owner.0) is) ∙ o) z }
@@ -204,7 +191,7 @@ module _ (s keys names accesses delegations : List ℕ) (held : Held s keys name
         let u : ◌≡◌ {A = ℕ} 0 1 = cc in
         absurd (omega arith)
 
-    pub delegation_fault : (sheet : List ℕ) (q : Asked Space) (f : Fault) → r ≡ as_delegation.Fault f → Hands (HandsOn (table_at s) sheet q j) the_handed.Nothing
+    pub delegation_fault : (sheet : List ℕ) (q : Asked Space) (f : Fault) → r ≡ as_delegation.Fault f → Hands (HandsOn (table_at s) sheet q j) None
     delegation_fault sheet q f e = absurd (delegation_never f e)
 
     module _ (v : DelegationValue) (n : ℕ) (e : r ≡ as_delegation.Delegation v n) where
@@ -229,7 +216,7 @@ module _ (s keys names accesses delegations : List ℕ) (held : Held s keys name
           (writer_fits, fits_so y.delegatee_path (held.good.delegations j y there).delegatee_path v.delegatee (ap (λ (u : DelegationValue). u.delegatee) its))
 
       module _ (sheet : List ℕ) (owner : Space) (wanted : Use) where
-        abbrev pub DelegationHands : Handed → Type 0
+        abbrev pub DelegationHands : Option Handed → Type 0
         DelegationHands a = Hands (HandsOn (table_at s) sheet (asked_of owner wanted) j) a
 
         -- A delegation that fits what is asked would be this one.
@@ -237,13 +224,12 @@ module _ (s keys names accesses delegations : List ℕ) (held : Held s keys name
             → y ≡ record { writer = S; owner_path = w.writes.owner_path; object = wanted.object; right = wanted.right; delegatee_path = w.path; depth = d }
         one w = at_one there w.writes.at
 
-        pub for_other_object : (v.wanted.object ≡ wanted.object → ⊥) → DelegationHands the_handed.Nothing
-        for_other_object f = not_handed (λ S k d w. f (ap (λ (u : DelegationValue). u.wanted.object) its ∙ ap (λ (u : Delegation). u.object) (one w)))
+        pub for_other : (v.wanted.object ≡ wanted.object → v.wanted.right ≡ wanted.right → ⊥) → DelegationHands None
+        for_other f = not_handed (λ S k d w. f
+            (ap (λ (u : DelegationValue). u.wanted.object) its ∙ ap (λ (u : Delegation). u.object) (one w))
+            (ap (λ (u : DelegationValue). u.wanted.right) its ∙ ap (λ (u : Delegation). u.right) (one w)))
 
-        pub for_other_right : (v.wanted.right ≡ wanted.right → ⊥) → DelegationHands the_handed.Nothing
-        for_other_right f = not_handed (λ S k d w. f (ap (λ (u : DelegationValue). u.wanted.right) its ∙ ap (λ (u : Delegation). u.right) (one w)))
-
-        module _ (a : Followed) (end : Finds (NameLeads (table_at s).names (InSheet (table_at s).names sheet) v.writer (path_of v.owner)) a) where
+        module _ (a : Option Key) (end : Finds (NameLeads (table_at s).names (InSheet (table_at s).names sheet) v.writer (path_of v.owner)) a) where
           owner_leads : Finds (told (table_at s) sheet y.writer y.owner_path) a
           owner_leads =
               leads_as y.owner_path (held.good.delegations j y there).owner_path v.owner (ap (λ (u : DelegationValue). u.owner) its) (table_at s) sheet y.writer a
@@ -253,32 +239,32 @@ module _ (s keys names accesses delegations : List ℕ) (held : Held s keys name
           owner_told : {S : Space} {k : Key} {d : ℕ} (w : HandsOn (table_at s) sheet (asked_of owner wanted) j S k d) → told (table_at s) sheet y.writer y.owner_path w.writes.owner_key
           owner_told w = subst (λ (u : Delegation). told (table_at s) sheet u.writer u.owner_path w.writes.owner_key) (sym (one w)) w.writes.owner_means
 
-          pub owner_nowhere : a ≡ followed.Nothing → DelegationHands the_handed.Nothing
+          pub owner_nowhere : a ≡ None → DelegationHands None
           owner_nowhere g = not_handed (λ S k d w. finds_none owner_leads g w.writes.owner_key (owner_told w))
 
-          module _ (m : Key) (g : a ≡ followed.Key m) (low : owner.0 < length keys) where
+          module _ (m : Key) (g : a ≡ Some m) (low : owner.0 < length keys) where
             owner_self_lem : IsSelf (table_at s).names.spaces owner (record { 0 = get_or keys owner.0 0 })
             owner_self_lem = own_key (table_at s).names keys names held.index owner low
 
-            pub owner_other : (m.0 ≡ get_or keys owner.0 0 → ⊥) → DelegationHands the_handed.Nothing
+            pub owner_other : (m.0 ≡ get_or keys owner.0 0 → ⊥) → DelegationHands None
             owner_other f =
                 not_handed (λ S k d w.
                 let p = leads_one (table_at s).names held.good.names sheet y.writer y.owner_path m w.writes.owner_key (finds_key owner_leads g) (owner_told w) in
                 f (ap (λ (u : Key). u.0) p ∙ ap (λ (u : Key). u.0) (self_one w.writes.owner_self owner_self_lem)))
 
-            module _ (b : Followed) (goal : Finds (NameLeads (table_at s).names (InSheet (table_at s).names sheet) v.writer (path_of v.delegatee)) b) where
+            module _ (b : Option Key) (goal : Finds (NameLeads (table_at s).names (InSheet (table_at s).names sheet) v.writer (path_of v.delegatee)) b) where
               delegatee_leads : Finds (told (table_at s) sheet y.writer y.delegatee_path) b
               delegatee_leads =
                   leads_as y.delegatee_path (held.good.delegations j y there).delegatee_path v.delegatee (ap (λ (u : DelegationValue). u.delegatee) its) (table_at s) sheet y.writer b
                   (subst (λ (S : Space). Finds (NameLeads (table_at s).names (InSheet (table_at s).names sheet) S (path_of v.delegatee)) b) (ap (λ (u : DelegationValue). u.writer) its) goal)
 
-              pub delegatee_nowhere : b ≡ followed.Nothing → DelegationHands the_handed.Nothing
+              pub delegatee_nowhere : b ≡ None → DelegationHands None
               delegatee_nowhere z =
                   not_handed (λ S k d w. finds_none delegatee_leads z k (subst (λ (u : Delegation). told (table_at s) sheet u.writer u.delegatee_path k) (sym (one w)) w.leads))
 
-              pub delegation_hands : (k : Key) → b ≡ followed.Key k → m.0 ≡ get_or keys owner.0 0 → v.wanted.object ≡ wanted.object → v.wanted.right ≡ wanted.right
-                  → DelegationHands (the_handed.On v.writer k v.depth)
-              delegation_hands k z o b c = on v.writer k v.depth (record {
+              pub delegation_hands : (k : Key) → b ≡ Some k → m.0 ≡ get_or keys owner.0 0 → v.wanted.object ≡ wanted.object → v.wanted.right ≡ wanted.right
+                  → DelegationHands (Some (record { writer = v.writer; to = k; depth = v.depth }))
+              delegation_hands k z o b c = on (record { writer = v.writer; to = k; depth = v.depth }) (record {
                 path = y.delegatee_path;
                 writer = record { 0 = get_or keys v.writer.0 0 };
                 writes = record {

@@ -3,111 +3,89 @@
 
 ghost use Rattle.std.specs.Prelude.{◌<◌, ◌≤◌, length};
 ghost use Rattle.table.specs.ReadTable.{table_at};
-ghost use Rattle.matching.specs.Matching.{Held, Gives, Hands, GivesTo, HandsOn, asked_of};
+ghost use Rattle.matching.specs.Matching.{Gives, Hands, GivesTo, HandsOn, asked_of};
 
+use crate::good::Good;
 use records::accesses::{AccessRead, read_access};
 use records::delegations::{DelegationRead, read_delegation};
 use records::fields::Use;
 use rules::{Depth, Key, Space};
-use sheet::following::{Followed, follow_name};
 
-// The key that the access record's name leads to, with the depth, if the record is for the request.
+pub mod good;
+
+// What is asked for: an owner's object, for a right.
 #[derive(Clone, Copy)]
-pub enum Given {
-    To(Key, Depth),
-    Nothing,
+pub struct Asked {
+    pub owner: Space,
+    pub wanted: Use,
 }
 
-// The writer of the delegation and the key that its delegatee's name leads to, with the depth, if the delegation is for the request.
+// The key that an access record gives access, and the depth.
 #[derive(Clone, Copy)]
-pub enum Handed {
-    On(Space, Key, Depth),
-    Nothing,
+pub struct Given {
+    pub to: Key,
+    pub depth: Depth,
 }
 
-// What access record number `i` gives.
-pub fn match_access(
-    table: &[u8],
-    keys: &[u32],
-    names: &[u32],
-    accesses: &[u16],
-    delegations: &[u16],
-    sheet: &[u32],
-    owner: Space,
-    wanted: Use,
-    i: usize,
-) -> Given
-    requires { Held table.now keys.now names.now accesses.now delegations.now × (length names.now ≤ length sheet.now) × (i < length (table_at table.now).accesses) }
-    ensures { Gives (GivesTo (table_at table.now) sheet.now (asked_of owner wanted) i) result }
-{
-    let place = accesses[i] as usize;
-    let found = read_access(&table[place..], keys.len());
-    let AccessRead::Access(access, _) = found else {
-        return Given::Nothing;
-    };
-    let lister = access.owner;
-    let purpose = access.wanted;
-    if lister.0 != owner.0 {
-        return Given::Nothing;
-    }
-    if purpose.object != wanted.object {
-        return Given::Nothing;
-    }
-    if purpose.right != wanted.right {
-        return Given::Nothing;
-    }
-    let path = access.path;
-    let end = follow_name(keys, names, sheet, lister, path);
-    let Followed::Key(key) = end else {
-        return Given::Nothing;
-    };
-    let depth = access.depth;
-    Given::To(key, depth)
+// The writer of a delegation, the key that it hands on access to, and the depth.
+#[derive(Clone, Copy)]
+pub struct Handed {
+    pub writer: Space,
+    pub to: Key,
+    pub depth: Depth,
 }
 
-// What delegation number `j` hands on.
-pub fn match_delegation(
-    table: &[u8],
-    keys: &[u32],
-    names: &[u32],
-    accesses: &[u16],
-    delegations: &[u16],
-    sheet: &[u32],
-    owner: Space,
-    wanted: Use,
-    j: usize,
-) -> Handed
-    requires { Held table.now keys.now names.now accesses.now delegations.now × (length names.now ≤ length sheet.now) × (owner.0 < length keys.now)
-        × (j < length (table_at table.now).delegations) }
-    ensures { Hands (HandsOn (table_at table.now) sheet.now (asked_of owner wanted) j) result }
-{
-    let place = delegations[j] as usize;
-    let found = read_delegation(&table[place..], keys.len());
-    let DelegationRead::Delegation(delegation, _) = found else {
-        return Handed::Nothing;
-    };
-    let purpose = delegation.wanted;
-    if purpose.object != wanted.object {
-        return Handed::Nothing;
+impl<'a> Good<'a> {
+    // What access record number `i` gives: the key that its name leads to, if it is for the request.
+    pub fn match_access(&self, sheet: &[u32], asked: Asked, i: usize) -> Option<Given>
+        requires { (length self.now.names.packed.now ≤ length sheet.now) × (i < length self.now.accesses.now) }
+        ensures { Gives (GivesTo (table_at self.now.names.table.now) sheet.now (asked_of asked.owner asked.wanted) i) result }
+    {
+        let names = &self.names;
+        let place = self.accesses[i] as usize;
+        let found = read_access(&names.table[place..], names.keys.len());
+        let AccessRead::Access(access, _) = found else {
+            return None;
+        };
+        if access.owner.0 != asked.owner.0
+            || access.wanted.object != asked.wanted.object
+            || access.wanted.right != asked.wanted.right
+        {
+            return None;
+        }
+        let to = names.follow_name(sheet, access.owner, access.path)?;
+        Some(Given {
+            to,
+            depth: access.depth,
+        })
     }
-    if purpose.right != wanted.right {
-        return Handed::Nothing;
+
+    // What delegation number `j` hands on: the key that its delegatee's name leads to, if it is for the request and its owner path leads to the owner.
+    pub fn match_delegation(&self, sheet: &[u32], asked: Asked, j: usize) -> Option<Handed>
+        requires { (length self.now.names.packed.now ≤ length sheet.now) × (asked.owner.0 < length self.now.names.keys.now) × (j < length self.now.delegations.now) }
+        ensures { Hands (HandsOn (table_at self.now.names.table.now) sheet.now (asked_of asked.owner asked.wanted) j) result }
+    {
+        let names = &self.names;
+        let place = self.delegations[j] as usize;
+        let found = read_delegation(&names.table[place..], names.keys.len());
+        let DelegationRead::Delegation(delegation, _) = found else {
+            return None;
+        };
+        if delegation.wanted.object != asked.wanted.object
+            || delegation.wanted.right != asked.wanted.right
+        {
+            return None;
+        }
+        let writer = delegation.writer;
+        let owner = names.follow_name(sheet, writer, delegation.owner)?;
+        if owner.0 != names.keys[asked.owner.0] {
+            return None;
+        }
+        let to = names.follow_name(sheet, writer, delegation.delegatee)?;
+        Some(Handed {
+            writer,
+            to,
+            depth: delegation.depth,
+        })
     }
-    let writer = delegation.writer;
-    let owner_path = delegation.owner;
-    let named = follow_name(keys, names, sheet, writer, owner_path);
-    let Followed::Key(owner_key) = named else {
-        return Handed::Nothing;
-    };
-    let number = owner.0;
-    if owner_key.0 != keys[number] {
-        return Handed::Nothing;
-    }
-    let path = delegation.delegatee;
-    let end = follow_name(keys, names, sheet, writer, path);
-    let Followed::Key(key) = end else {
-        return Handed::Nothing;
-    };
-    let depth = delegation.depth;
-    Handed::On(writer, key, depth)
 }
