@@ -1,7 +1,7 @@
 -- Filling a sheet, entry after entry and round after round.
 use mathlib.Core.Path.{◌≡◌, refl, sym, ◌∙◌, ap, subst}
 use mathlib.Core.List.{List, [], ◌∷◌, ◌++◌}
-use Prim.Native.Nat.{ℕ, zero, suc, ◌+◌, ◌-◌, ◌<◌, ◌≤◌, suc-le-suc}
+use Prim.Native.Nat.{ℕ, zero, suc, ◌+◌, ◌<◌, ◌≤◌, suc-le-suc}
 use native.Mathlib.Nat.{zero-lt-suc}
 use native.Mathlib.Omega.{arith}
 use native.Mathlib.Numerals.{add-one}
@@ -61,9 +61,6 @@ module _ (t : NameTable) (sheet order : List ℕ) (listed : ℕ) (now : Listing 
 
 -- ---- a round
 module _ (t : NameTable) (listed : ℕ) where
-  pub round_start : (sheet order : List ℕ) → Listing t sheet order listed → Round t listed sheet order 0 listed
-  round_start sheet order l = record { listing = l; more = omega arith; quiet = λ e j h. absurd (omega arith) }
-
   pub round_on : (before sheet order₀ order : List ℕ) (i n m : ℕ) → Round t listed before order₀ i n → Listing t sheet order m → Turn t i before sheet n m → Round t listed sheet order (i + 1) m
   round_on before sheet order₀ order i n _ r l more = record { listing = l; more = omega (arith, r.more); quiet = λ e j h. absurd (omega (arith, r.more, e)) }
   round_on before sheet order₀ order i n _ r l (same e q) = record { listing = l; more = r.more; quiet = λ z j h. still z j h (ℕ_discrete j i) }
@@ -71,9 +68,6 @@ module _ (t : NameTable) (listed : ℕ) where
       still : n ≡ listed → (j : ℕ) → j < i + 1 → Dec (j ≡ i) → Quiet t sheet j
       still z j h (yes w) = subst (Quiet t sheet) (sym w) q
       still z j h (no w) = subst (λ (s : List ℕ). Quiet t s j) (sym e) (r.quiet z j (omega arith))
-
-  pub round_end : (sheet order : List ℕ) (i n m : ℕ) → m ≤ i → Round t listed sheet order i n → Round t listed sheet order m n
-  round_end sheet order i n m h r = record { listing = r.listing; more = r.more; quiet = λ e j b. r.quiet e j (omega arith) }
 
 -- ---- at rest
 module _ (t : NameTable) (sheet order : List ℕ) where
@@ -102,19 +96,10 @@ module _ (t : NameTable) (s keys names places : List ℕ) (known : Known t s key
   cleared_listing sheet before order e q h =
       subst (λ (s : List ℕ). Listing t s order 0) (sym e) (listing_start t (length before) order (q ∙ sym (index_bindings t keys names known.index)) (omega (arith, q)))
 
-  pub number_fits : (i : ℕ) → i < length names → i < 65536
-  number_fits i h = omega (arith, known.few_bindings)
-
   pub entry_below : (i : ℕ) → i < length names → i < length t.bindings
   entry_below i h = omega (arith, index_bindings t keys names known.index)
 
   module _ (sheet order : List ℕ) (n : ℕ) (l : Listing t sheet order n) where
-    pub sheet_room : length names ≤ length sheet
-    sheet_room = omega (arith, index_bindings t keys names known.index, l.size)
-
-    pub sheet_below : (i : ℕ) → i < length names → i < length sheet
-    sheet_below i h = omega (arith, index_bindings t keys names known.index, l.size)
-
     -- All are listed.
     pub full_ends : length names ≤ n → Listing t sheet order n × AtRest t sheet
     full_ends h = (l, full_rests t sheet order n l (omega (arith, index_bindings t keys names known.index)))
@@ -123,10 +108,6 @@ module _ (t : NameTable) (s keys names places : List ℕ) (known : Known t s key
     -- The round listed no more.
     pub quiet_ends : n ≡ listed → Listing t sheet order listed × AtRest t sheet
     quiet_ends e = (subst (Listing t sheet order) e r.listing, quiet_rests t sheet order listed n (length names) (omega (arith, index_bindings t keys names known.index)) r e)
-
-    -- The round listed more.
-    pub round_falls : (n ≡ listed → ⊥) → listed < length names → length names - n < length names - listed
-    round_falls d h = omega (arith, r.more, d)
 
 -- ---- a sheet with entries past those of the bindings
 module _ (t : NameTable) (good : GoodNames t) (part rest order : List ℕ) (n : ℕ) (l : Listing t part order n) (still : AtRest t part) where

@@ -1,5 +1,5 @@
 -- What the bindings wait for, while the sheet is filled.
-use mathlib.Core.Path.{◌≡◌, sym, ◌∙◌, ap, subst}
+use mathlib.Core.Path.{◌≡◌, refl, sym, ◌∙◌, ap, subst}
 use mathlib.Core.Bool.{Bool, true, false, not}
 use mathlib.Core.List.{List}
 use Prim.Native.Nat.{ℕ, ◌+◌, ◌-◌, ◌<◌, ◌≤◌}
@@ -15,12 +15,11 @@ use Rattle.rules.specs.Sheets.{entry}
 use Rattle.table.proofs.FindingLaws.{at_below}
 use Rattle.sheet.specs.Walks.{Grown, Stopped}
 use Rattle.sheet.specs.Known.{Known}
-use Rattle.sheet.specs.Listings.{Opening, Listing, Waiting, Rests, filled, waiting, due, Quiet}
+use Rattle.sheet.specs.Listings.{Opening, Waiting, Rests, filled, waiting, due, Quiet, Turn, same}
 use Rattle.sheet.specs.declared.following.Walked.{Walked}
 use Rattle.sheet.specs.declared.following.Walked.TheVariants as walked
 use Rattle.sheet.proofs.WalksLaws.{grown_none, stopped_on, walks_waits, walks_nothing}
 use Rattle.sheet.proofs.MeaningLaws.{index_bindings}
-use Rattle.sheet.proofs.FillingLaws.{entry_below, sheet_below}
 
 -- ---- the test
 module _ (sheet waits : List ℕ) (i : ℕ) where
@@ -85,8 +84,8 @@ module _ (t : NameTable) (sheet : List ℕ) (i : ℕ) (h : i < length t.bindings
     }
 
   module _ (j : ℕ) (s : StopsAt t sheet i j) where
-    pub stops_quiet : Quiet t sheet i
-    stops_quiet = record { quiet = λ x k a z v. (s.stops x a).stopped sheet (grown_none sheet) s.empty k v }
+    pub stops_turn : (n : ℕ) → Turn t i sheet sheet n n
+    stops_turn n = same refl (record { quiet = λ x k a z v. (s.stops x a).stopped sheet (grown_none sheet) s.empty k v })
 
     pub stops_waiting : (waits : List ℕ) → Waiting t sheet waits → Waiting t sheet (set waits i (j + 1))
     stops_waiting waits w = record {
@@ -113,15 +112,6 @@ module _ (t : NameTable) (sheet : List ℕ) (i : ℕ) (h : i < length t.bindings
 module _ (t : NameTable) (s keys names places : List ℕ) (known : Known t s keys names places) where
   pub stops_fits : (sheet : List ℕ) (i j : ℕ) → StopsAt t sheet i j → j < 65536
   stops_fits sheet i j w = omega (arith, w.there, known.few_bindings, index_bindings t keys names known.index)
-
-  pub waits_below : (sheet waits : List ℕ) → Waiting t sheet waits → (i : ℕ) → i < length names → i < length waits
-  waits_below sheet waits w i h = omega (arith, w.room, index_bindings t keys names known.index)
-
-  pub rests_asks : (sheet order : List ℕ) (n : ℕ) → Listing t sheet order n → (waits : List ℕ) → Waiting t sheet waits → (i : ℕ) → i < length names
-      → (i < length sheet) × (i < length waits) × (entry waits i ≤ length sheet)
-  rests_asks sheet order n l waits w i h =
-      let b = entry_below t s keys names places known i h in
-      (sheet_below t s keys names places known sheet order n l i h, waits_below sheet waits w i h, omega (arith, w.there i b, l.size))
 
   pub cleared_waiting : (sheet waits before : List ℕ) → waits ≡ replicate (length before) 0 → length names ≤ length before → Waiting t sheet waits
   cleared_waiting sheet waits before e h = waiting_start t sheet waits before e (omega (arith, h, index_bindings t keys names known.index))

@@ -2,29 +2,19 @@
 use mathlib.Core.Path.{ap}
 use native.Mathlib.Nat.{le_refl}
 use native.Mathlib.Omega.{arith}
-use lib.ListN.{length}
 use Rattle.records.specs.declared.paths.Path.{Path}
-use Rattle.sheet.proofs.FindsLaws.{rest_fits, space_below, binding_below}
+use Rattle.sheet.proofs.FindsLaws.{rest_fits, space_below}
 use Rattle.sheet.proofs.WalksLaws.{at_its_end, not_bound, still_empty, last_name, nobody_has, goes_on}
 use Rattle.sheet.proofs.names.Names.+walk.Goals as goal
 
 pub returns-then-path-eq0 : goal.returns-then-path-eq0
 returns-then-path-eq0 t c = λ n index. at_its_end _ _ _ _ index _ _ c.requires.2 c.requires.1 c.if-path-eq0.true
 
-pub offset_bounds-sheet-i : goal.offset_bounds-sheet-i
-offset_bounds-sheet-i t c = omega (arith, c.args.self.now.known.few_bindings, binding_below (length c.args.self.now.packed.now) c.find_binding.result c.in-Binding.i (length c.args.self.now.packed.now) (le_refl _) c.find_binding.ensures.there c.in-Binding.is)
-
-pub bounds-sheet-i : goal.bounds-sheet-i
-bounds-sheet-i t c = binding_below _ _ _ _ c.requires.0 c.find_binding.ensures.there c.in-Binding.is
-
 pub returns-then-key-eq0 : goal.returns-then-key-eq0
 returns-then-key-eq0 t c = λ n index. still_empty _ _ _ _ index _ _ c.requires.2 c.if-path-eq0.false _ c.find_binding.ensures.found _ c.in-Binding.is c.if-key-eq0.true
 
 pub returns-then-path-eq1 : goal.returns-then-path-eq1
 returns-then-path-eq1 t c = λ n index. last_name _ _ _ _ index _ _ c.requires.2 c.if-path-eq0.false _ c.find_binding.ensures.found _ c.in-Binding.is c.if-key-eq0.false c.requires.1 c.if-path-eq1.true
-
-pub rest_of-requires : goal.rest_of-requires
-rest_of-requires t c = omega (arith, c.if-path-eq0.false)
 
 pub walk-requires : goal.walk-requires
 walk-requires t c = (let e = ap (λ (q : Path). q.length) c.rest_of.ensures in omega (arith, e, c.decreases, c.if-path-eq0.false), (c.requires.0, space_below c.args.self.now.keys.now _ _ _ _ (le_refl _) c.find_space.ensures c.in-Space.is, rest_fits _ _ c.rest_of.ensures c.requires.2))

@@ -1,23 +1,14 @@
 -- `fill_all` goes on until a round lists no more, or all are listed.
-use mathlib.Core.Path.{refl, ◌∙◌}
-use Rattle.sheet.proofs.FillingLaws.{cleared_listing, round_falls, quiet_ends, full_ends}
+use mathlib.Core.Path.{refl}
+use Rattle.sheet.proofs.FillingLaws.{cleared_listing, quiet_ends, full_ends}
 use Rattle.sheet.proofs.WaitingLaws.{cleared_waiting}
 use Rattle.sheet.proofs.names.Names.fill_all.Goals as goal
 
 pub loop-listed-init : goal.loop-listed-init
 loop-listed-init c = (cleared_listing _ _ _ _ _ c.args.self.now.known _ c.args.sheet.now _ (c.fill.ensures.after (λ y e. e)) c.requires.0 c.requires.1, cleared_waiting _ _ _ _ _ c.args.self.now.known _ _ c.args.waits.now (c.fill-2.ensures.after (λ y e. e)) c.requires.2, refl, refl, refl)
 
-pub round-now-requires : goal.round-now-requires
-round-now-requires c = (c.loop-listed.invariant.0, c.loop-listed.invariant.1)
-
 pub returns-then-now-listed : goal.returns-then-now-listed
 returns-then-now-listed c = quiet_ends _ _ _ _ _ c.args.self.now.known _ _ _ _ c.round-now.ensures.round c.if-now-listed.true
-
-pub loop-listed-smaller : goal.loop-listed-smaller
-loop-listed-smaller c = round_falls _ _ _ _ _ c.args.self.now.known _ _ _ _ c.round-now.ensures.round c.if-now-listed.false c.loop-listed-test.true
-
-pub loop-listed-preserved : goal.loop-listed-preserved
-loop-listed-preserved c = (c.round-now.ensures.round.listing, c.round-now.ensures.waiting, c.sheet-in-loop-listed-1.given ∙ c.loop-listed.invariant.2, c.order-1.given ∙ c.loop-listed.invariant.3, c.waits-in-loop-listed-1.given ∙ c.loop-listed.invariant.4)
 
 pub returns : goal.returns
 returns c = full_ends _ _ _ _ _ c.args.self.now.known _ _ _ c.loop-listed.invariant.0 c.loop-listed-test.false

@@ -1,12 +1,6 @@
 -- `open_binding` reads the binding where it stands and follows its target.
-use Rattle.sheet.proofs.MeaningLaws.{place_within, no_fault, target_fitting, leads_so}
+use Rattle.sheet.proofs.MeaningLaws.{no_fault, target_fitting, leads_so}
 use Rattle.sheet.proofs.names.Names.open_binding.Goals as goal
-
-pub slice_bounds-read_binding-count : goal.slice_bounds-read_binding-count
-slice_bounds-read_binding-count c = place_within _ _ _ _ _ c.args.self.now.known _ c.requires.1
-
-pub slice_bounds-read_binding-start : goal.slice_bounds-read_binding-start
-slice_bounds-read_binding-start c = place_within _ _ _ _ _ c.args.self.now.known _ c.requires.1
 
 pub walk_target-requires : goal.walk_target-requires
 walk_target-requires c = (c.requires.0, target_fitting _ _ _ _ _ c.args.self.now.known _ c.requires.1 _ c.read_binding.ensures _ _ c.in-Binding.is)

@@ -1,10 +1,6 @@
 -- `walk_target`: a key leads to itself, a name where `walk` says.
-use Rattle.sheet.proofs.FindsLaws.{name-requires}
 use Rattle.sheet.proofs.WalksLaws.{target_key_lem, target_name}
 use Rattle.sheet.proofs.names.Names.walk_target.Goals as goal
-
-pub walk-requires : goal.walk-requires
-walk-requires c = let w = name-requires _ _ _ _ c.in-Name.is c.requires.1 in (c.requires.0, w.0, w.1)
 
 pub returns-in-Key : goal.returns-in-Key
 returns-in-Key c = λ t index. target_key_lem _ _ _ _ c.in-Key.is
