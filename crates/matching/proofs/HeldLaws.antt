@@ -5,6 +5,7 @@ use Prim.Native.Nat.{ℕ, ◌≤◌}
 use native.Mathlib.Omega.{arith}
 use lib.ListN.{length, take, length-map}
 use lib.Seq.{length-take-le, get_or-take}
+use Rattle.std.specs.Prelude.{Ok, Err}
 use Rattle.rules.specs.Ranges.{Good, most_spaces, most_bindings, most_accesses, most_delegations}
 use Rattle.rules.specs.Tables.{Table}
 use Rattle.wire.specs.Number.{Bytes}
@@ -15,8 +16,6 @@ use Rattle.records.specs.declared.faults.Fault.{Fault}
 use Rattle.table.specs.ReadTable.{Laid, table_of, read_table, table_at, sections_of, loaded_of}
 use Rattle.table.specs.Kept.{IfGood, Standing, Indexed, number_of}
 use Rattle.table.specs.declared.Sections.{Sections}
-use Rattle.table.specs.declared.Loaded.{Loaded}
-use Rattle.table.specs.declared.Loaded.TheVariants as loaded
 use Rattle.table.proofs.Theorems.{table_form}
 use Rattle.sheet.specs.Known.{Known}
 use Rattle.sheet.proofs.KnownLaws.{table_at_lem, good_table_lem, known_here}
@@ -29,16 +28,16 @@ pub record Read (s : List ℕ) (v : Sections) : Type 0 where
   pub table : read_table s ≡ got laid end
   pub same : sections_of laid ≡ v
 
-pub read_good : (p : Parsed Laid) (r : Loaded) (v : Sections) → r ≡ loaded_of p → r ≡ loaded.Good v → (l : Laid) × (end : ℕ) × (p ≡ got l end) × (sections_of l ≡ v)
-read_good (got l n) r v e h = let q : sections_of l ≡ v = cc in (l, n, λ i. got l n, q)
-read_good (bad f) r v e h = let z : ◌≡◌ {A = ℕ} 0 1 = cc in absurd (omega arith)
+pub read_good : (p : Parsed Laid) (v : Sections) → Ok v ≡ loaded_of p → (l : Laid) × (end : ℕ) × (p ≡ got l end) × (sections_of l ≡ v)
+read_good (got l n) v e = let q : sections_of l ≡ v = cc in (l, n, λ i. got l n, q)
+read_good (bad f) v e = let z : ◌≡◌ {A = ℕ} 0 1 = cc in absurd (omega arith)
 
-pub read_bad : (p : Parsed Laid) (r : Loaded) (f : Fault) → r ≡ loaded_of p → r ≡ loaded.Bad f → p ≡ bad f
-read_bad (got l n) r f e h = let z : ◌≡◌ {A = ℕ} 0 1 = cc in absurd (omega arith)
-read_bad (bad g) r f e h = let q : g ≡ f = cc in ap bad q
+pub read_bad : (p : Parsed Laid) (f : Fault) → Err f ≡ loaded_of p → p ≡ bad f
+read_bad (got l n) f e = let z : ◌≡◌ {A = ℕ} 0 1 = cc in absurd (omega arith)
+read_bad (bad g) f e = let q : g ≡ f = cc in ap bad q
 
-pub read_table_lem : (s : List ℕ) (r : Loaded) (v : Sections) → r ≡ loaded_of (read_table s) → r ≡ loaded.Good v → Read s v
-read_table_lem s r v e h = let w = read_good (read_table s) r v e h in record { laid = w.0; end = w.1; table = w.2; same = w.3 }
+pub read_table_lem : (s : List ℕ) (v : Sections) → Ok v ≡ loaded_of (read_table s) → Read s v
+read_table_lem s v e = let w = read_good (read_table s) v e in record { laid = w.0; end = w.1; table = w.2; same = w.3 }
 
 module _ (s : List ℕ) (bytes : Bytes s) (v : Sections) (read : Read s v) where
   good : Good (table_of read.laid)

@@ -16,17 +16,13 @@ use Rattle.rules.proofs.ListsLaws.{at_one}
 use Rattle.rules.proofs.NamesLaws.{self_one}
 use Rattle.records.specs.Parsed.{got, Reader}
 use Rattle.records.specs.Paths.{path_of, path_value}
-use Rattle.records.specs.Accesses.{access_record, access_read, access_value}
-use Rattle.records.specs.Delegations.{delegation_record, delegation_read, delegation_value}
+use Rattle.records.specs.Accesses.{access_record, access_value}
+use Rattle.records.specs.Delegations.{delegation_record, delegation_value}
 use Rattle.records.specs.declared.faults.Fault.{Fault}
 use Rattle.records.specs.declared.fields.Use.{Use}
 use Rattle.records.specs.declared.paths.Path.{Path as PathValue}
 use Rattle.records.specs.declared.accesses.Access.{Access}
-use Rattle.records.specs.declared.accesses.AccessRead.{AccessRead}
-use Rattle.records.specs.declared.accesses.AccessRead.TheVariants as as_access
 use Rattle.records.specs.declared.delegations.Delegation.{Delegation as DelegationValue}
-use Rattle.records.specs.declared.delegations.DelegationRead.{DelegationRead}
-use Rattle.records.specs.declared.delegations.DelegationRead.TheVariants as as_delegation
 use Rattle.records.proofs.FormatLaws.{Walks}
 use Rattle.records.proofs.RecordsForm.{access_walks, delegation_walks}
 use Rattle.table.specs.ReadTable.{table_at}
@@ -88,26 +84,27 @@ module _ (s keys names accesses delegations : List ℕ) (held : Held s keys name
   pub access_place : i < length accesses
   access_place = omega (arith, held.access_count)
 
-  module _ (r : AccessRead) (found : r ≡ access_read (access_record (length keys) (rest s (get_or accesses i 0)) 0)) where
-    reads : (n : ℕ) × (r ≡ as_access.Access (access_value x) n)
-    reads = let b = stands_back (access_record (length keys)) (access_walks (length keys)) s accesses (table_at s).accesses held.accesses i x here in (b.0, found ∙ ap access_read b.1)
+  module _ (r : Result (Access × ℕ) Fault) (found : r ≡ found_as access_value (access_record (length keys) (rest s (get_or accesses i 0)) 0)) where
+    reads : (n : ℕ) × (r ≡ Ok (access_value x, n))
+    reads = let b = stands_back (access_record (length keys)) (access_walks (length keys)) s accesses (table_at s).accesses held.accesses i x here in (b.0, found ∙ ap (found_as access_value) b.1)
 
-    pub access_never : (f : Fault) → r ≡ as_access.Fault f → ⊥
+    pub access_never : (f : Fault) → r ≡ Err f → ⊥
     access_never f e =
         let w = reads in
-        let z : as_access.Access (access_value x) w.0 ≡ as_access.Fault f = sym w.1 ∙ e in
+        let z : ◌≡◌ {A = Result (Access × ℕ) Fault} (Ok (access_value x, w.0)) (Err f) = sym w.1 ∙ e in
         let y : ◌≡◌ {A = ℕ} 0 1 = cc in
         absurd (omega arith)
 
-    pub access_fault : (sheet : List ℕ) (q : Asked Space) (f : Fault) → r ≡ as_access.Fault f → Gives (GivesTo (table_at s) sheet q i) None
+    pub access_fault : (sheet : List ℕ) (q : Asked Space) (f : Fault) → r ≡ Err f → Gives (GivesTo (table_at s) sheet q i) None
     access_fault sheet q f e = absurd (access_never f e)
 
-    module _ (v : Access) (n : ℕ) (e : r ≡ as_access.Access v n) where
+    module _ (v : Access) (n : ℕ) (e : r ≡ Ok (v, n)) where
       is : v ≡ access_value x
       is =
           let w = reads in
-          let z : as_access.Access (access_value x) w.0 ≡ as_access.Access v n = sym w.1 ∙ e in
-          let y : access_value x ≡ v = cc z in
+          let z : ◌≡◌ {A = Result (Access × ℕ) Fault} (Ok (access_value x, w.0)) (Ok (v, n)) = sym w.1 ∙ e in
+          let t : ◌≡◌ {A = Access × ℕ} (access_value x, w.0) (v, n) = cc z in
+          let y : access_value x ≡ v = ap (λ k. k.0) t in
           sym y
 
       pub access_value_lem : (y : AccessRecord) × At (table_at s).accesses i y × (v ≡ access_value y)
@@ -178,28 +175,29 @@ module _ (s keys names accesses delegations : List ℕ) (held : Held s keys name
   pub delegation_place : j < length delegations
   delegation_place = omega (arith, held.delegation_count)
 
-  module _ (r : DelegationRead) (found : r ≡ delegation_read (delegation_record (length keys) (rest s (get_or delegations j 0)) 0)) where
-    read : (n : ℕ) × (r ≡ as_delegation.Delegation (delegation_value y) n)
+  module _ (r : Result (DelegationValue × ℕ) Fault) (found : r ≡ found_as delegation_value (delegation_record (length keys) (rest s (get_or delegations j 0)) 0)) where
+    read : (n : ℕ) × (r ≡ Ok (delegation_value y, n))
     read =
         let b = stands_back (delegation_record (length keys)) (delegation_walks (length keys)) s delegations (table_at s).delegations held.delegations j y there in
-        (b.0, found ∙ ap delegation_read b.1)
+        (b.0, found ∙ ap (found_as delegation_value) b.1)
 
-    pub delegation_never : (f : Fault) → r ≡ as_delegation.Fault f → ⊥
+    pub delegation_never : (f : Fault) → r ≡ Err f → ⊥
     delegation_never f e =
         let w = read in
-        let z : as_delegation.Delegation (delegation_value y) w.0 ≡ as_delegation.Fault f = sym w.1 ∙ e in
+        let z : ◌≡◌ {A = Result (DelegationValue × ℕ) Fault} (Ok (delegation_value y, w.0)) (Err f) = sym w.1 ∙ e in
         let u : ◌≡◌ {A = ℕ} 0 1 = cc in
         absurd (omega arith)
 
-    pub delegation_fault : (sheet : List ℕ) (q : Asked Space) (f : Fault) → r ≡ as_delegation.Fault f → Hands (HandsOn (table_at s) sheet q j) None
+    pub delegation_fault : (sheet : List ℕ) (q : Asked Space) (f : Fault) → r ≡ Err f → Hands (HandsOn (table_at s) sheet q j) None
     delegation_fault sheet q f e = absurd (delegation_never f e)
 
-    module _ (v : DelegationValue) (n : ℕ) (e : r ≡ as_delegation.Delegation v n) where
+    module _ (v : DelegationValue) (n : ℕ) (e : r ≡ Ok (v, n)) where
       its : v ≡ delegation_value y
       its =
           let w = read in
-          let z : as_delegation.Delegation (delegation_value y) w.0 ≡ as_delegation.Delegation v n = sym w.1 ∙ e in
-          let u : delegation_value y ≡ v = cc z in
+          let z : ◌≡◌ {A = Result (DelegationValue × ℕ) Fault} (Ok (delegation_value y, w.0)) (Ok (v, n)) = sym w.1 ∙ e in
+          let t : ◌≡◌ {A = DelegationValue × ℕ} (delegation_value y, w.0) (v, n) = cc z in
+          let u : delegation_value y ≡ v = ap (λ k. k.0) t in
           sym u
 
       pub delegation_value_lem : (z : Delegation) × At (table_at s).delegations j z × (v ≡ delegation_value z)

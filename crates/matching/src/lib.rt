@@ -43,10 +43,7 @@ impl<'a> Good<'a> {
     {
         let names = &self.names;
         let place = self.accesses[i] as usize;
-        let found = read_access(&names.table[place..], names.keys.len());
-        let AccessRead::Access(access, _) = found else {
-            return None;
-        };
+        let (access, _) = read_access(&names.table[place..], names.keys.len()).ok()?;
         if access.owner.0 != asked.owner.0
             || access.wanted.object != asked.wanted.object
             || access.wanted.right != asked.wanted.right
@@ -67,10 +64,7 @@ impl<'a> Good<'a> {
     {
         let names = &self.names;
         let place = self.delegations[j] as usize;
-        let found = read_delegation(&names.table[place..], names.keys.len());
-        let DelegationRead::Delegation(delegation, _) = found else {
-            return None;
-        };
+        let (delegation, _) = read_delegation(&names.table[place..], names.keys.len()).ok()?;
         if delegation.wanted.object != asked.wanted.object
             || delegation.wanted.right != asked.wanted.right
         {

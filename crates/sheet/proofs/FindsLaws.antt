@@ -2,7 +2,7 @@
 use mathlib.Core.Path.{◌≡◌, refl, sym, ◌∙◌, ap, subst}
 use mathlib.Core.List.{List, [], ◌∷◌}
 use mathlib.Core.Option.{some-injective}
-use Rattle.std.specs.Prelude.{Option, Some, None}
+use Rattle.std.specs.Prelude.{Option, Some, None, IfSome}
 use Prim.Native.Nat.{ℕ, zero, suc, ◌-◌, ◌<◌, ◌≤◌}
 use native.Mathlib.Omega.{arith}
 use lib.ListN.{length, take, get_or, length-map}
@@ -18,12 +18,8 @@ use Rattle.records.specs.declared.paths.Path.{Path}
 use Rattle.records.specs.declared.targets.Target.{Target as TargetValue}
 use Rattle.records.specs.declared.targets.Target.TheVariants as as_target
 use Rattle.table.proofs.FindingLaws.{space_here}
-use Rattle.table.specs.Finding.{FindsSpace, has, nobody, FindsBinding, opens, keys_of, Below}
+use Rattle.table.specs.Finding.{FindsSpace, has, nobody, FindsBinding, opens, keys_of}
 use Rattle.table.specs.Finding.{nothing as unbound}
-use Rattle.table.specs.declared.finding.SpaceFound.{SpaceFound}
-use Rattle.table.specs.declared.finding.SpaceFound.TheVariants as space
-use Rattle.table.specs.declared.finding.BindingFound.{BindingFound}
-use Rattle.table.specs.declared.finding.BindingFound.TheVariants as binding
 use Rattle.sheet.specs.Finds.{Finds, key, nothing, Index, Fitting, FittingTarget, rest_of}
 
 -- ---- what was found
@@ -62,27 +58,27 @@ rest_fits p rest e f = subst Fitting (sym e) (fits_on p f)
     fits_on p f = record { short = omega (arith, f.short); first = f.second; second = f.third; third = f.fourth; fourth = omega arith }
 
 -- ---- spaces and bindings that were found
-pub space_has : {spaces : List Key} {k : Key} {r : SpaceFound} (S : Space) → FindsSpace spaces k r → r ≡ space.Space S → IsSelf spaces S k
+pub space_has : {spaces : List Key} {k : Key} {r : Option Space} (S : Space) → FindsSpace spaces k r → r ≡ Some S → IsSelf spaces S k
 space_has {spaces} {k} S (has T w) e = let q : T ≡ S = cc in subst (λ (U : Space). IsSelf spaces U k) q w
 space_has S (nobody f) e = let z : ◌≡◌ {A = ℕ} 0 1 = cc in absurd (omega arith)
 
-pub space_none : {spaces : List Key} {k : Key} {r : SpaceFound} → FindsSpace spaces k r → r ≡ space.None → (S : Space) → IsSelf spaces S k → ⊥
+pub space_none : {spaces : List Key} {k : Key} {r : Option Space} → FindsSpace spaces k r → r ≡ None → (S : Space) → IsSelf spaces S k → ⊥
 space_none (has T w) e = let z : ◌≡◌ {A = ℕ} 0 1 = cc in absurd (omega arith)
 space_none (nobody f) e = f
 
-pub binding_opens : {bindings : List Binding} {T : Space} {b : ℕ} {r : BindingFound} (i : ℕ) → FindsBinding bindings T b r → r ≡ binding.Binding i → (g : Target) × Opens bindings T b i g
+pub binding_opens : {bindings : List Binding} {T : Space} {b : ℕ} {r : Option ℕ} (i : ℕ) → FindsBinding bindings T b r → r ≡ Some i → (g : Target) × Opens bindings T b i g
 binding_opens {bindings} {T} {b} i (opens j g o) e = let q : j ≡ i = cc in (g, subst (λ (n : ℕ). Opens bindings T b n g) q o)
 binding_opens i (unbound f) e = let z : ◌≡◌ {A = ℕ} 0 1 = cc in absurd (omega arith)
 
-pub binding_none : {bindings : List Binding} {T : Space} {b : ℕ} {r : BindingFound} → FindsBinding bindings T b r → r ≡ binding.None → (i : ℕ) (g : Target) → Opens bindings T b i g → ⊥
+pub binding_none : {bindings : List Binding} {T : Space} {b : ℕ} {r : Option ℕ} → FindsBinding bindings T b r → r ≡ None → (i : ℕ) (g : Target) → Opens bindings T b i g → ⊥
 binding_none (opens j g o) e = let z : ◌≡◌ {A = ℕ} 0 1 = cc in absurd (omega arith)
 binding_none (unbound f) e = f
 
-pub space_below : (keys : List ℕ) (k : Key) (r : SpaceFound) (S : Space) (most : ℕ) → length keys ≤ most → FindsSpace (keys_of keys) k r → r ≡ space.Space S → S.0 < most
+pub space_below : (keys : List ℕ) (k : Key) (r : Option Space) (S : Space) (most : ℕ) → length keys ≤ most → FindsSpace (keys_of keys) k r → r ≡ Some S → S.0 < most
 space_below keys k r S most h f e = omega (arith, (space_has S f e).at.there, length-map {B = Key} keys (λ (n : ℕ). record { 0 = n }))
 
-pub binding_below : (n : ℕ) (r : BindingFound) (i most : ℕ) → n ≤ most → Below n r → r ≡ binding.Binding i → i < most
-binding_below n r i most h b e = let l : i < n = subst (Below n) e b in omega arith
+pub binding_below : (n : ℕ) (r : Option ℕ) (i most : ℕ) → n ≤ most → IfSome r (λ j. j < n) → r ≡ Some i → i < most
+binding_below n r i most h b e = let l : i < n = subst (λ (o : Option ℕ). IfSome o (λ j. j < n)) e b in omega arith
 
 -- ---- a whole name
 -- A space has the key that stands at its number.

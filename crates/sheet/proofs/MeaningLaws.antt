@@ -2,7 +2,7 @@
 use mathlib.Core.Path.{◌≡◌, refl, sym, ◌∙◌, ap, subst}
 use mathlib.Core.List.{List, [], ◌∷◌}
 use Prim.Native.Nat.{ℕ, zero, suc, ◌<◌, ◌≤◌}
-use Rattle.std.specs.Prelude.{Option}
+use Rattle.std.specs.Prelude.{Option, Result, Ok, Err}
 use native.Mathlib.Omega.{arith}
 use lib.ListN.{length, take, get_or, length-map}
 use Rattle.rules.specs.Lists.{At}
@@ -10,15 +10,14 @@ use Rattle.rules.specs.Tables.{Path, Target, to_key, to_name, Binding, NameTable
 use Rattle.rules.specs.Ranges.{GoodPath, GoodTarget}
 use Rattle.rules.specs.declared.Key.{Key}
 use Rattle.rules.proofs.ListsLaws.{at_head, at_tail}
+use Rattle.records.specs.Parsed.{found_as}
 use Rattle.records.specs.Paths.{path_of, path_value}
 use Rattle.records.specs.Targets.{target_of, target_value}
-use Rattle.records.specs.Bindings.{binding_record, binding_read, binding_value, packed}
+use Rattle.records.specs.Bindings.{binding_record, binding_value, packed}
 use Rattle.records.specs.Rows.{is_among}
 use Rattle.records.specs.declared.faults.Fault.{Fault}
 use Rattle.records.specs.declared.targets.Target.{Target as TargetValue}
 use Rattle.records.specs.declared.bindings.Binding.{Binding as BindingValue}
-use Rattle.records.specs.declared.bindings.BindingRead.{BindingRead}
-use Rattle.records.specs.declared.bindings.BindingRead.TheVariants as as_binding
 use Rattle.records.proofs.RecordsForm.{binding_walks}
 use Rattle.table.specs.Kept.{unbound}
 use Rattle.table.proofs.LoadingLaws.{rest, there_back}
@@ -71,28 +70,29 @@ module _ (t : NameTable) (s keys names places : List ℕ) (known : Known t s key
   pub place_within : get_or places i 0 ≤ length s
   place_within = known.standing.within i (omega (arith, index_bindings t keys names known.index))
 
-  module _ (r : BindingRead) (found : r ≡ binding_read (binding_record (length keys) (λ S b. is_among (take 0 names) (packed S b)) (rest s (get_or places i 0)) 0)) where
-    reads : (x : Binding) → At t.bindings i x → (n : ℕ) × (r ≡ as_binding.Binding (binding_value x) n)
+  module _ (r : Result (BindingValue × ℕ) Fault) (found : r ≡ found_as binding_value (binding_record (length keys) (λ S b. is_among (take 0 names) (packed S b)) (rest s (get_or places i 0)) 0)) where
+    reads : (x : Binding) → At t.bindings i x → (n : ℕ) × (r ≡ Ok (binding_value x, n))
     unfolding is_among
     reads x a =
         let w = known.standing.stands i x a in
         let b = there_back (λ earlier. binding_record (length keys) unbound) (λ earlier. binding_walks (length keys) unbound) s [] (get_or places i 0) place_within x w.0 w.1 in
-        (b.0, found ∙ ap binding_read b.1)
+        (b.0, found ∙ ap (found_as binding_value) b.1)
 
-    pub no_fault : (f : Fault) → r ≡ as_binding.Fault f → ⊥
+    pub no_fault : (f : Fault) → r ≡ Err f → ⊥
     no_fault f e =
         let x = at_below t.bindings i (omega (arith, index_bindings t keys names known.index)) in
         let w = reads x.0 x.1 in
-        let q : as_binding.Binding (binding_value x.0) w.0 ≡ as_binding.Fault f = sym w.1 ∙ e in
+        let q : ◌≡◌ {A = Result (BindingValue × ℕ) Fault} (Ok (binding_value x.0, w.0)) (Err f) = sym w.1 ∙ e in
         let z : ◌≡◌ {A = ℕ} 0 1 = cc in
         absurd (omega arith)
 
-    module _ (v : BindingValue) (n : ℕ) (e : r ≡ as_binding.Binding v n) where
+    module _ (v : BindingValue) (n : ℕ) (e : r ≡ Ok (v, n)) where
       is_value : (x : Binding) → At t.bindings i x → v.target ≡ target_value x.target
       is_value x a =
           let w = reads x a in
-          let q : as_binding.Binding (binding_value x) w.0 ≡ as_binding.Binding v n = sym w.1 ∙ e in
-          let y : binding_value x ≡ v = cc q in
+          let q : ◌≡◌ {A = Result (BindingValue × ℕ) Fault} (Ok (binding_value x, w.0)) (Ok (v, n)) = sym w.1 ∙ e in
+          let t : ◌≡◌ {A = BindingValue × ℕ} (binding_value x, w.0) (v, n) = cc q in
+          let y : binding_value x ≡ v = ap (λ z. z.0) t in
           sym (ap (λ (b : BindingValue). b.target) y)
 
       pub target_fitting : FittingTarget (length keys) v.target

@@ -3,7 +3,7 @@ use mathlib.Core.Path.{◌≡◌, refl, sym, ◌∙◌, ap, subst}
 use mathlib.Core.List.{List, ◌∷◌}
 use Prim.Native.Nat.{ℕ, ◌-◌, ◌<◌}
 use native.Mathlib.Omega.{arith}
-use Rattle.std.specs.Prelude.{Option}
+use Rattle.std.specs.Prelude.{Option, Some, None}
 use native.Mathlib.Decide.{ℕ_discrete}
 use lib.ListN.{length, set, get_or}
 use lib.Seq.{get_or-set_other}
@@ -20,10 +20,6 @@ use Rattle.records.specs.declared.paths.Path.{Path}
 use Rattle.records.specs.declared.targets.Target.{Target as TargetValue}
 use Rattle.records.specs.declared.targets.Target.TheVariants as as_target
 use Rattle.table.specs.Finding.{FindsSpace, keys_of, FindsNamed}
-use Rattle.table.specs.declared.finding.SpaceFound.{SpaceFound}
-use Rattle.table.specs.declared.finding.SpaceFound.TheVariants as space
-use Rattle.table.specs.declared.finding.BindingFound.{BindingFound}
-use Rattle.table.specs.declared.finding.BindingFound.TheVariants as binding
 use Rattle.sheet.specs.Finds.{Finds, Index, Fitting, rest_of}
 use Rattle.sheet.specs.Finds.{key as finds_key, nothing as finds_nothing}
 use Rattle.sheet.specs.Walks.{Grown, Stopped, Nowhere, Walks, key, waits, nothing, for_now}
@@ -51,7 +47,7 @@ module _ (t : NameTable) (keys names sheet : List ℕ) (index : Index t keys nam
   at_its_end h e = subst (λ (q : List ℕ). Walks t sheet (to_name S q) (walked.Key (record { 0 = get_or keys S.0 0 }))) (sym (path_none p e))
       (key (record { 0 = get_or keys S.0 0 }) (record { start = record { 0 = get_or keys S.0 0 }; is_self = own_key t keys names index S h; leads = refl }))
 
-  module _ (some : p.length ≡ 0 → ⊥) (r : BindingFound) (f : FindsNamed names S p.first r) where
+  module _ (some : p.length ≡ 0 → ⊥) (r : Option ℕ) (f : FindsNamed names S p.first r) where
     by_first : (P : Account) (k : Key) → NameLeads t P S (path_of p) k
         → (i : ℕ) × (x : Target) × Opens t.bindings S p.first i x × (m : Key) × P i m × PathLeads t P m (path_of (rest_of p)) k
     by_first P k v = go (subst (λ (q : List ℕ). NameLeads t P S q k) (path_first p fits some) v)
@@ -62,10 +58,10 @@ module _ (t : NameTable) (keys names sheet : List ℕ) (index : Index t keys nam
             let h = index.good.keys_apart w.space S v.start w.is_self v.is_self in
             (w.number, w.target, subst (λ (U : Space). Opens t.bindings U p.first w.number w.target) h w.opens, v.leads.0, w.gives, v.leads.2)
 
-    pub not_bound : r ≡ binding.None → Walks t sheet (to_name S (path_of p)) walked.Nothing
+    pub not_bound : r ≡ None → Walks t sheet (to_name S (path_of p)) walked.Nothing
     not_bound e = nothing (record { nowhere = λ later grown k v. let o = by_first (InSheet t later) k v in binding_none (f t.bindings index.bindings) e o.0 o.1 o.2 })
 
-    module _ (i : ℕ) (e : r ≡ binding.Binding i) where
+    module _ (i : ℕ) (e : r ≡ Some i) where
       abbrev pub its_key : Key
       its_key = record { 0 = entry sheet i }
 
@@ -114,8 +110,8 @@ module _ (t : NameTable) (keys names sheet : List ℕ) (index : Index t keys nam
               let z : p.length - 1 ≡ 0 = omega arith in
               key its_key (back its_key (subst (λ (q : List ℕ). PathLeads t (InSheet t sheet) its_key q its_key) (sym (path_none (rest_of p) z)) refl))
 
-          module _ (a : SpaceFound) (g : FindsSpace (keys_of keys) its_key a) where
-            pub nobody_has : (p.length ≡ 1 → ⊥) → a ≡ space.None → Walks t sheet (to_name S (path_of p)) walked.Nothing
+          module _ (a : Option Space) (g : FindsSpace (keys_of keys) its_key a) where
+            pub nobody_has : (p.length ≡ 1 → ⊥) → a ≡ None → Walks t sheet (to_name S (path_of p)) walked.Nothing
             nobody_has n y = nothing (record { nowhere = λ later grown k v. none later k (onward later grown k v) })
               where
                 none : (later : List ℕ) (k : Key) → PathLeads t (InSheet t later) its_key (path_of (rest_of p)) k → ⊥
@@ -124,7 +120,7 @@ module _ (t : NameTable) (keys names sheet : List ℕ) (index : Index t keys nam
                     let l = subst (λ (q : List ℕ). PathLeads t (InSheet t later) its_key q k) (path_first (rest_of p) (rest_fits p (rest_of p) refl fits) q) w in
                     space_none g y l.1.space (subst (λ (keys : List Key). IsSelf keys l.1.space its_key) (sym index.spaces) l.1.is_self)
 
-            module _ (T : Space) (y : a ≡ space.Space T) where
+            module _ (T : Space) (y : a ≡ Some T) where
               home : IsSelf t.spaces T its_key
               home = subst (λ (l : List Key). IsSelf l T its_key) index.spaces (space_has T g y)
 

@@ -7,7 +7,7 @@ ghost use Rattle.sheet.specs.Listings.{Opening, Leading, Listing, Waiting, Rests
 
 use crate::following::Walked;
 use crate::names::Names;
-use records::bindings::{BindingRead, read_binding};
+use records::bindings::read_binding;
 use rules::Key;
 
 // Whether entry `i` is filled, or waits for one that is still 0.
@@ -26,8 +26,8 @@ impl<'a> Names<'a> {
     {
         let place = self.bindings[i] as usize;
         match read_binding(&self.table[place..], self.keys.len(), &self.packed[..0]) {
-            BindingRead::Binding(binding, _) => self.walk_target(sheet, binding.target),
-            BindingRead::Fault(_) => Walked::Nothing,
+            Ok((binding, _)) => self.walk_target(sheet, binding.target),
+            Err(_) => Walked::Nothing,
         }
     }
 

@@ -11,10 +11,10 @@ use crate::names::Names;
 use records::paths::Path;
 use records::targets::Target;
 use rules::{Key, Space};
-use table::finding::{BindingFound, SpaceFound, find_binding, find_space};
+use table::finding::{find_binding, find_space};
 
 // A key; or the number of the binding whose entry, still 0, stopped it; or nothing, however the sheet is filled further.
-#[derive(Clone, Copy)]
+#[derive(Clone, Copy, PartialEq, Eq)]
 pub enum Walked {
     Key(Key),
     Waits(usize),
@@ -57,8 +57,8 @@ impl<'a> Names<'a> {
             return Walked::Key(Key(self.keys[space.0]));
         }
         match find_binding(self.packed, space, path.first) {
-            BindingFound::None => Walked::Nothing,
-            BindingFound::Binding(i) => {
+            None => Walked::Nothing,
+            Some(i) => {
                 let key = sheet[i];
                 if key == 0 {
                     return Walked::Waits(i);
@@ -67,8 +67,8 @@ impl<'a> Names<'a> {
                     return Walked::Key(Key(key));
                 }
                 match find_space(self.keys, Key(key)) {
-                    SpaceFound::None => Walked::Nothing,
-                    SpaceFound::Space(next) => self.walk(sheet, next, rest_of(path)),
+                    None => Walked::Nothing,
+                    Some(next) => self.walk(sheet, next, rest_of(path)),
                 }
             }
         }
