@@ -5,14 +5,13 @@ use mathlib.Core.Option.{Option, none, some}
 use Prim.Native.Nat.{ℕ, ◌<◌}
 use native.Mathlib.Omega.{arith}
 use lib.ListN.{length}
+use Rattle.std.specs.Prelude.{Some, None}
 use Rattle.rules.specs.Ranges.{GoodRequest}
 use Rattle.rules.specs.Tables.{Target, Request}
 use Rattle.wire.specs.Number.{Bytes}
 use Rattle.records.specs.Targets.{target_of}
-use Rattle.records.specs.Requests.{read_request, request_read, request_value}
+use Rattle.records.specs.Requests.{read_request, request_value, held_as}
 use Rattle.records.specs.declared.requests.Request.{Request as RequestValue}
-use Rattle.records.specs.declared.requests.RequestRead.{RequestRead}
-use Rattle.records.specs.declared.requests.RequestRead.TheVariants as as_request
 use Rattle.records.proofs.RequestsForm.{request_form}
 use Rattle.table.specs.ReadTable.{table_at}
 use Rattle.sheet.specs.Finds.{FittingTarget}
@@ -22,13 +21,13 @@ use Rattle.matching.specs.Matching.{asked_of}
 use Rattle.matching.proofs.MatchingLaws.{few_spaces_lem}
 
 -- ---- what the reader's answer says
-request_not : (p : Option Request) (r : RequestRead) → r ≡ request_read p → r ≡ as_request.Not → p ≡ none
-request_not none r e h = refl
-request_not (some x) r e h = let z : ◌≡◌ {A = ℕ} 0 1 = cc in absurd (omega arith)
+request_not : (p : Option Request) → None ≡ held_as request_value p → p ≡ none
+request_not none e = refl
+request_not (some x) e = let z : ◌≡◌ {A = ℕ} 0 1 = cc in absurd (omega arith)
 
-request_is : (p : Option Request) (r : RequestRead) (v : RequestValue) → r ≡ request_read p → r ≡ as_request.Request v → (x : Request) × (p ≡ some x) × (v ≡ request_value x)
-request_is none r v e h = let z : ◌≡◌ {A = ℕ} 0 1 = cc in absurd (omega arith)
-request_is (some x) r v e h = let q : v ≡ request_value x = cc in (x, refl, q)
+request_is : (p : Option Request) (v : RequestValue) → Some v ≡ held_as request_value p → (x : Request) × (p ≡ some x) × (v ≡ request_value x)
+request_is none v e = let z : ◌≡◌ {A = ℕ} 0 1 = cc in absurd (omega arith)
+request_is (some x) v e = let q : v ≡ request_value x = cc in (x, refl, q)
 
 -- The request that the bytes hold over the table, and the value that code has of it.
 pub record Asks (s keys request : List ℕ) (wish : RequestValue) : Type 0 where
@@ -38,16 +37,16 @@ pub record Asks (s keys request : List ℕ) (wish : RequestValue) : Type 0 where
   pub subject : FittingTarget (length keys) wish.subject
   pub owner : wish.owner.0 < length keys
 
-module _ (s keys names accesses delegations : List ℕ) (held : Held s keys names accesses delegations) (asked : RequestRead) (request : List ℕ) (read : asked ≡ request_read (read_request (length keys) request)) where
+module _ (s keys names accesses delegations : List ℕ) (held : Held s keys names accesses delegations) (request : List ℕ) where
   spaces : length (table_at s).names.spaces ≡ length keys
   spaces = index_spaces (table_at s).names keys names held.index
 
-  pub asks_nothing : asked ≡ as_request.Not → read_request (length (table_at s).names.spaces) request ≡ none
-  asks_nothing e = ap (λ (n : ℕ). read_request n request) spaces ∙ request_not (read_request (length keys) request) asked read e
+  pub asks_nothing : None ≡ held_as request_value (read_request (length keys) request) → read_request (length (table_at s).names.spaces) request ≡ none
+  asks_nothing e = ap (λ (n : ℕ). read_request n request) spaces ∙ request_not (read_request (length keys) request) e
 
-  module _ (bytes : Bytes request) (wish : RequestValue) (e : asked ≡ as_request.Request wish) where
+  module _ (bytes : Bytes request) (wish : RequestValue) (e : Some wish ≡ held_as request_value (read_request (length keys) request)) where
     is : (x : Request) × (read_request (length keys) request ≡ some x) × (wish ≡ request_value x)
-    is = request_is (read_request (length keys) request) asked wish read e
+    is = request_is (read_request (length keys) request) wish e
 
     good : GoodRequest (length keys) is.0
     good = (request_form (length keys) (omega (arith, few_spaces_lem s keys names accesses delegations held)) request is.0 bytes is.1).1

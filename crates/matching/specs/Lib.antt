@@ -1,2 +1,4 @@
 pub mod Held
 pub mod Matching
+pub mod Records
+pub mod Opening

@@ -3,32 +3,34 @@
 
 ghost use Rattle.std.specs.Prelude.{◌<◌, ◌≤◌, length};
 ghost use Rattle.table.specs.ReadTable.{table_at};
+ghost use Rattle.matching.specs.Records.{HoldsAccess, HoldsDelegation};
 ghost use Rattle.matching.specs.Matching.{Gives, Hands, GivesTo, HandsOn, asked_of};
 
 use crate::good::Good;
-use records::accesses::{AccessRead, read_access};
-use records::delegations::{DelegationRead, read_delegation};
+use records::accesses::{Access, read_access};
+use records::delegations::{Delegation, read_delegation};
 use records::fields::Use;
 use rules::{Depth, Key, Space};
 
 pub mod good;
+pub mod opening;
 
 // What is asked for: an owner's object, for a right.
-#[derive(Clone, Copy)]
+#[derive(Clone, Copy, PartialEq, Eq)]
 pub struct Asked {
     pub owner: Space,
     pub wanted: Use,
 }
 
 // The key that an access record gives access, and the depth.
-#[derive(Clone, Copy)]
+#[derive(Clone, Copy, PartialEq, Eq)]
 pub struct Given {
     pub to: Key,
     pub depth: Depth,
 }
 
 // The writer of a delegation, the key that it hands on access to, and the depth.
-#[derive(Clone, Copy)]
+#[derive(Clone, Copy, PartialEq, Eq)]
 pub struct Handed {
     pub writer: Space,
     pub to: Key,
@@ -36,21 +38,42 @@ pub struct Handed {
 }
 
 impl<'a> Good<'a> {
+    // Access record number `i`.
+    pub fn access(&self, i: usize) -> Access
+        requires { i < length self.now.accesses.now }
+        ensures { HoldsAccess (table_at self.now.names.table.now) (length self.now.names.keys.now) i result }
+    {
+        let place = self.accesses[i] as usize;
+        let (access, _) = read_access(&self.names.table[place..], self.names.keys.len()).unwrap();
+        access
+    }
+
+    // Delegation number `j`.
+    pub fn delegation(&self, j: usize) -> Delegation
+        requires { j < length self.now.delegations.now }
+        ensures { HoldsDelegation (table_at self.now.names.table.now) (length self.now.names.keys.now) j result }
+    {
+        let place = self.delegations[j] as usize;
+        let (delegation, _) = read_delegation(
+            &self.names.table[place..],
+            self.names.keys.len(),
+        ).unwrap();
+        delegation
+    }
+
     // What access record number `i` gives: the key that its name leads to, if it is for the request.
     pub fn match_access(&self, sheet: &[u32], asked: Asked, i: usize) -> Option<Given>
         requires { (length self.now.names.packed.now ≤ length sheet.now) × (i < length self.now.accesses.now) }
         ensures { Gives (GivesTo (table_at self.now.names.table.now) sheet.now (asked_of asked.owner asked.wanted) i) result }
     {
-        let names = &self.names;
-        let place = self.accesses[i] as usize;
-        let (access, _) = read_access(&names.table[place..], names.keys.len()).ok()?;
+        let access = self.access(i);
         if access.owner.0 != asked.owner.0
             || access.wanted.object != asked.wanted.object
             || access.wanted.right != asked.wanted.right
         {
             return None;
         }
-        let to = names.follow_name(sheet, access.owner, access.path)?;
+        let to = self.names.follow_name(sheet, access.owner, access.path)?;
         Some(Given {
             to,
             depth: access.depth,
@@ -62,20 +85,18 @@ impl<'a> Good<'a> {
         requires { (length self.now.names.packed.now ≤ length sheet.now) × (asked.owner.0 < length self.now.names.keys.now) × (j < length self.now.delegations.now) }
         ensures { Hands (HandsOn (table_at self.now.names.table.now) sheet.now (asked_of asked.owner asked.wanted) j) result }
     {
-        let names = &self.names;
-        let place = self.delegations[j] as usize;
-        let (delegation, _) = read_delegation(&names.table[place..], names.keys.len()).ok()?;
+        let delegation = self.delegation(j);
         if delegation.wanted.object != asked.wanted.object
             || delegation.wanted.right != asked.wanted.right
         {
             return None;
         }
         let writer = delegation.writer;
-        let owner = names.follow_name(sheet, writer, delegation.owner)?;
-        if owner.0 != names.keys[asked.owner.0] {
+        let owner = self.names.follow_name(sheet, writer, delegation.owner)?;
+        if owner.0 != self.names.keys[asked.owner.0] {
             return None;
         }
-        let to = names.follow_name(sheet, writer, delegation.delegatee)?;
+        let to = self.names.follow_name(sheet, writer, delegation.delegatee)?;
         Some(Handed {
             writer,
             to,
