@@ -56,21 +56,19 @@ impl<'a> Names<'a> {
         if path.length == 0 {
             return Walked::Key(Key(self.keys[space.0]));
         }
-        match find_binding(self.packed, space, path.first) {
+        let Some(i) = find_binding(self.packed, space, path.first) else {
+            return Walked::Nothing;
+        };
+        let key = sheet[i];
+        if key == 0 {
+            return Walked::Waits(i);
+        }
+        if path.length == 1 {
+            return Walked::Key(Key(key));
+        }
+        match find_space(self.keys, Key(key)) {
             None => Walked::Nothing,
-            Some(i) => {
-                let key = sheet[i];
-                if key == 0 {
-                    return Walked::Waits(i);
-                }
-                if path.length == 1 {
-                    return Walked::Key(Key(key));
-                }
-                match find_space(self.keys, Key(key)) {
-                    None => Walked::Nothing,
-                    Some(next) => self.walk(sheet, next, rest_of(path)),
-                }
-            }
+            Some(next) => self.walk(sheet, next, rest_of(path)),
         }
     }
 
