@@ -6,12 +6,13 @@ ghost use Rattle.rules.specs.Ranges.{most_spaces, most_bindings, most_accesses, 
 ghost use Rattle.table.specs.ReadTable.{read_table, loaded_of};
 ghost use Rattle.table.specs.Kept.{IfGood, Indexed};
 
-use crate::loading::{
-    Section, load_accesses, load_bindings, load_delegations, load_spaces, read_version,
-};
+use crate::loading::{Section, load_bindings, load_records, load_spaces, read_version};
+use records::accesses::Access;
+use records::delegations::Delegation;
 use records::faults::{Fault, Kind, fault_at};
 
 pub mod finding;
+pub mod listed;
 pub mod loading;
 
 pub const MOST_TABLE: usize = 32768;
@@ -65,8 +66,8 @@ pub fn load_index(
     let (spaces, at2) = load_spaces(table, at1, keys)?;
     // The row of the delegations waits its turn, and serves to mark names till then.
     let (bound, at3) = load_bindings(table, at2, spaces.count, names, bindings, delegations)?;
-    let (given, at4) = load_accesses(table, at3, spaces.count, accesses)?;
-    let (handed, end) = load_delegations(table, at4, spaces.count, delegations)?;
+    let (given, at4) = load_records::<Access>(table, at3, spaces.count, accesses)?;
+    let (handed, end) = load_records::<Delegation>(table, at4, spaces.count, delegations)?;
     if end != table.len() {
         return Err(fault_at(Kind::Extra, end));
     }

@@ -1,22 +1,19 @@
 // Sections: a count, and so many records.
 ghost use Rattle.std.specs.Prelude.{◌≡◌, [], ◌≤◌, length};
-ghost use Rattle.rules.specs.Ranges.{most_spaces, most_bindings, most_accesses, most_delegations};
+ghost use Rattle.rules.specs.Ranges.{most_spaces, most_bindings, most_delegations};
 ghost use Rattle.records.specs.Parsed.{found_as, after};
 ghost use Rattle.records.specs.Many.{many};
 ghost use Rattle.records.specs.Bindings.{binding_record, is_bound, packed};
 ghost use Rattle.records.specs.Rows.{is_among, Marked};
-ghost use Rattle.records.specs.Accesses.{access_record};
-ghost use Rattle.records.specs.Delegations.{delegation_record};
 ghost use Rattle.table.specs.Sections.{version, section, section_of};
 ghost use Rattle.table.specs.ReadTable.{most_table, space_key};
 ghost use Rattle.table.specs.Kept.{IfGood, Kept, Standing, number_of, name_of, unbound};
 
-use records::accesses::read_access;
+use crate::listed::Listed;
 use records::bindings::{pack, read_binding};
-use records::delegations::read_delegation;
 use records::faults::{Fault, Kind, fault_at, moved};
 use records::fields::{read_field, read_key};
-use records::passing::{pass_access, pass_binding, pass_delegation};
+use records::passing::pass_binding;
 use records::reader::number_at;
 use records::rows::{is_among, is_marked_among, mark};
 
@@ -113,23 +110,23 @@ fn read_bindings(
     Ok(at)
 }
 
-// The place after the access record at a place: most are passed over, and only the others are read.
-fn after_access(table: &[u8], at: usize, spaces: usize) -> Result<usize, Fault>
+// The place after the record at a place: most are passed over, and only the others are read.
+fn after_record<R: Listed>(table: &[u8], at: usize, spaces: usize) -> Result<usize, Fault>
     requires { (at ≤ length table.now) × (length table.now ≤ most_table) }
-    ensures { result ≡ after (access_record spaces table.now at) }
+    ensures { result ≡ after (R.reader spaces table.now at) }
 {
     let rest = &table[at..];
-    if let Some(taken) = pass_access(rest, spaces) {
+    if let Some(taken) = R::pass(rest, spaces) {
         return Ok(at + taken);
     }
-    match read_access(rest, spaces) {
-        Ok((_, taken)) => Ok(at + taken),
+    match R::read(rest, spaces) {
+        Ok(taken) => Ok(at + taken),
         Err(fault) => Err(moved(fault, at)),
     }
 }
 
-// So many access records from a place on; where they stand is kept in `places`.
-fn read_accesses(
+// So many records from a place on; where they stand is kept in `places`.
+fn read_records<R: Listed>(
     table: &[u8],
     from: usize,
     count: usize,
@@ -137,48 +134,12 @@ fn read_accesses(
     places: &mut [u16],
 ) -> Result<usize, Fault>
     requires { (count ≤ length places.old) × (from ≤ length table.now) × (length table.now ≤ most_table) }
-    ensures read { result ≡ after (many (λ earlier. access_record spaces) count [] table.now from) }
-    ensures kept { IfGood (many (λ earlier. access_record spaces) count [] table.now from) (λ l. Standing (access_record spaces) table.now places.new l) }
+    ensures read { result ≡ after (many (λ earlier. R.reader spaces) count [] table.now from) }
+    ensures kept { IfGood (many (λ earlier. R.reader spaces) count [] table.now from) (λ l. Standing (R.reader spaces) table.now places.new l) }
 {
     let mut at = from;
     for i in 0..count {
-        let next = after_access(table, at, spaces)?;
-        places[i] = at as u16;
-        at = next;
-    }
-    Ok(at)
-}
-
-// The place after the delegation at a place: most are passed over, and only the others are read.
-fn after_delegation(table: &[u8], at: usize, spaces: usize) -> Result<usize, Fault>
-    requires { (at ≤ length table.now) × (length table.now ≤ most_table) }
-    ensures { result ≡ after (delegation_record spaces table.now at) }
-{
-    let rest = &table[at..];
-    if let Some(taken) = pass_delegation(rest, spaces) {
-        return Ok(at + taken);
-    }
-    match read_delegation(rest, spaces) {
-        Ok((_, taken)) => Ok(at + taken),
-        Err(fault) => Err(moved(fault, at)),
-    }
-}
-
-// So many delegations from a place on; where they stand is kept in `places`.
-fn read_delegations(
-    table: &[u8],
-    from: usize,
-    count: usize,
-    spaces: usize,
-    places: &mut [u16],
-) -> Result<usize, Fault>
-    requires { (count ≤ length places.old) × (from ≤ length table.now) × (length table.now ≤ most_table) }
-    ensures read { result ≡ after (many (λ earlier. delegation_record spaces) count [] table.now from) }
-    ensures kept { IfGood (many (λ earlier. delegation_record spaces) count [] table.now from) (λ l. Standing (delegation_record spaces) table.now places.new l) }
-{
-    let mut at = from;
-    for i in 0..count {
-        let next = after_delegation(table, at, spaces)?;
+        let next = after_record::<R>(table, at, spaces)?;
         places[i] = at as u16;
         at = next;
     }
@@ -217,38 +178,20 @@ pub fn load_bindings(
     Ok((Section { count, first }, at))
 }
 
-// The section of the access records; where they stand is kept in `places`.
-pub fn load_accesses(
+// The section of the access records, or of the delegations; where they stand is kept in `places`.
+pub fn load_records<R: Listed>(
     table: &[u8],
     from: usize,
     spaces: usize,
     places: &mut [u16],
 ) -> Result<(Section, usize), Fault>
-    requires { (most_accesses ≤ length places.old) × (from ≤ length table.now) × (length table.now ≤ most_table) }
-    ensures read { result ≡ found_as section_of (section most_accesses (λ earlier. access_record spaces) table.now from) }
-    ensures kept { IfGood (section most_accesses (λ earlier. access_record spaces) table.now from)
-        (λ l. Standing (access_record spaces) table.now places.new l.records) }
+    requires { (R.MOST ≤ length places.old) × (from ≤ length table.now) × (length table.now ≤ most_table) }
+    ensures read { result ≡ found_as section_of (section R.MOST (λ earlier. R.reader spaces) table.now from) }
+    ensures kept { IfGood (section R.MOST (λ earlier. R.reader spaces) table.now from)
+        (λ l. Standing (R.reader spaces) table.now places.new l.records) }
 {
-    let (number, first) = read_field(table, from, 0, MOST_ACCESSES)?;
+    let (number, first) = read_field(table, from, 0, R::MOST)?;
     let count = number as usize;
-    let at = read_accesses(table, first, count, spaces, places)?;
-    Ok((Section { count, first }, at))
-}
-
-// The section of the delegations; where they stand is kept in `places`.
-pub fn load_delegations(
-    table: &[u8],
-    from: usize,
-    spaces: usize,
-    places: &mut [u16],
-) -> Result<(Section, usize), Fault>
-    requires { (most_delegations ≤ length places.old) × (from ≤ length table.now) × (length table.now ≤ most_table) }
-    ensures read { result ≡ found_as section_of (section most_delegations (λ earlier. delegation_record spaces) table.now from) }
-    ensures kept { IfGood (section most_delegations (λ earlier. delegation_record spaces) table.now from)
-        (λ l. Standing (delegation_record spaces) table.now places.new l.records) }
-{
-    let (number, first) = read_field(table, from, 0, MOST_DELEGATIONS)?;
-    let count = number as usize;
-    let at = read_delegations(table, first, count, spaces, places)?;
+    let at = read_records::<R>(table, first, count, spaces, places)?;
     Ok((Section { count, first }, at))
 }

@@ -24,14 +24,14 @@ load_bindings-requires c = let w = (section_within _ _ spaces_walk _ _ _ _ (vers
 pub returns-in_err-bound : goal.returns-in_err-bound
 returns-in_err-bound c = let both = besides_passed loaded_of _ c.from_residual-in_err-bound.ensures.1 (bindings_bad _ _ _ _ _ _ c.if-table-gt-MOST_TABLE.false _ c.in_ok-at1.ensures _ _ c.in_ok-spaces.ensures.read _ c.in_err-bound.ensures.read) in record { read = both.0; kept = both.1 }
 
-pub load_accesses-requires : goal.load_accesses-requires
-load_accesses-requires c = (c.requires.3, (section_within _ _ (λ earlier. binding_walks _ (is_bound earlier)) _ _ _ _ (section_within _ _ spaces_walk _ _ _ _ (version_within _ _ _ c.in_ok-at1.ensures) c.in_ok-spaces.ensures.read).1 c.in_ok-bound.ensures.read).1, c.if-table-gt-MOST_TABLE.false)
+pub load_records-requires : goal.load_records-requires
+load_records-requires c = (c.requires.3, (section_within _ _ (λ earlier. binding_walks _ (is_bound earlier)) _ _ _ _ (section_within _ _ spaces_walk _ _ _ _ (version_within _ _ _ c.in_ok-at1.ensures) c.in_ok-spaces.ensures.read).1 c.in_ok-bound.ensures.read).1, c.if-table-gt-MOST_TABLE.false)
 
 pub returns-in_err-given : goal.returns-in_err-given
 returns-in_err-given c = let both = besides_passed loaded_of _ c.from_residual-in_err-given.ensures.1 (accesses_bad _ _ _ _ _ _ c.if-table-gt-MOST_TABLE.false _ c.in_ok-at1.ensures _ _ c.in_ok-spaces.ensures.read _ _ c.in_ok-bound.ensures.read _ c.in_err-given.ensures.read) in record { read = both.0; kept = both.1 }
 
-pub load_delegations-requires : goal.load_delegations-requires
-load_delegations-requires c = (omega (arith, c.delegations-1.given, c.requires.4), (section_within _ _ (λ earlier. access_walks _) _ _ _ _ (section_within _ _ (λ earlier. binding_walks _ (is_bound earlier)) _ _ _ _ (section_within _ _ spaces_walk _ _ _ _ (version_within _ _ _ c.in_ok-at1.ensures) c.in_ok-spaces.ensures.read).1 c.in_ok-bound.ensures.read).1 c.in_ok-given.ensures.read).1, c.if-table-gt-MOST_TABLE.false)
+pub load_records-requires-2 : goal.load_records-requires-2
+load_records-requires-2 c = (omega (arith, c.delegations-1.given, c.requires.4), (section_within _ _ (λ earlier. access_walks _) _ _ _ _ (section_within _ _ (λ earlier. binding_walks _ (is_bound earlier)) _ _ _ _ (section_within _ _ spaces_walk _ _ _ _ (version_within _ _ _ c.in_ok-at1.ensures) c.in_ok-spaces.ensures.read).1 c.in_ok-bound.ensures.read).1 c.in_ok-given.ensures.read).1, c.if-table-gt-MOST_TABLE.false)
 
 pub returns-in_err-handed : goal.returns-in_err-handed
 returns-in_err-handed c = let both = besides_passed loaded_of _ c.from_residual-in_err-handed.ensures.1 (delegations_bad _ _ _ _ _ _ c.if-table-gt-MOST_TABLE.false _ c.in_ok-at1.ensures _ _ c.in_ok-spaces.ensures.read _ _ c.in_ok-bound.ensures.read _ _ c.in_ok-given.ensures.read _ c.in_err-handed.ensures.read) in record { read = both.0; kept = both.1 }
