@@ -5,7 +5,7 @@ ghost use Rattle.records.specs.Bindings.{binding_record, binding_value, packed};
 ghost use Rattle.records.specs.Rows.{is_among};
 
 use crate::faults::{Fault, Kind, fault_at};
-use crate::fields::{MOST_BASE, read_field, read_space};
+use crate::fields::{BASE, read_space};
 use crate::rows::is_among;
 use crate::targets::{Target, read_target};
 use rules::Space;
@@ -31,7 +31,7 @@ pub fn read_binding(rest: &[u8], spaces: usize, earlier: &[u32]) -> Result<(Bind
     ensures { result ≡ found_as binding_value (binding_record spaces (λ S b. is_among earlier.now (packed S b)) rest.now 0) }
 {
     let (space, at1) = read_space(rest, 0, spaces)?;
-    let (base, at2) = read_field(rest, at1, 1, MOST_BASE)?;
+    let (base, at2) = BASE.read(rest, at1)?;
     if is_among(earlier, pack(space, base)) {
         return Err(fault_at(Kind::Twice, at1));
     }

@@ -1,6 +1,5 @@
 // The fields of records: each a number in its range.
-ghost use Rattle.std.specs.Prelude.{◌≡◌, IfSome};
-ghost use Rattle.rules.specs.Ranges.{most_key, most_object, most_right, most_base, most_names};
+ghost use Rattle.std.specs.Prelude.{◌≡◌, ◌+◌, ◌*◌, ◌^◌, ◌≤◌, ◌<◌, IfSome};
 ghost use Rattle.records.specs.Parsed.{got, found, found_as};
 ghost use Rattle.records.specs.Fields.{any_number, field, space_field, key_field, depth_field, use_fields, depth_value, use_value};
 
@@ -8,16 +7,6 @@ use crate::faults::{Fault, Kind, fault_at};
 use crate::reader::number_at;
 use rules::{Depth, Key, Space};
 use wire::glancing::glance_at;
-
-pub const MOST_KEY: u32 = 4294967295;
-
-pub const MOST_BASE: u32 = 65535;
-
-pub const MOST_OBJECT: u32 = 65535;
-
-pub const MOST_RIGHT: u32 = 32;
-
-pub const MOST_NAMES: u32 = 4;
 
 // What a record is for: an object and a right.
 #[derive(Clone, Copy, PartialEq, Eq)]
@@ -50,78 +39,68 @@ pub fn read_field(s: &[u8], at: usize, low: u32, high: u32) -> Result<(u32, usiz
     Ok((value, next))
 }
 
-// An object, seen at a glance.
-pub fn glance_object(s: &[u8], at: usize) -> Option<(u32, usize)>
-    ensures { IfSome result (λ seen. field 0 most_object s.now at ≡ got seen.0 seen.1) }
-{
-    glance_at(s, at, 0, 2, 3)
+// The bounds of a field: from `low` to `high`; and how a number in it is seen at a glance, with at most `more` bytes before its last, which is at most `last` behind so many.
+#[derive(Clone, Copy)]
+pub struct Bounds {
+    low: u32,
+    high: u32,
+    more: usize,
+    last: u32,
+    ghost glanced: { (low ≤ 1) × (more ≤ 4) × (last < 128) × ((last + 1) * 128 ^ more ≡ high + 1) },
 }
 
-// A base name, seen at a glance.
-pub fn glance_base(s: &[u8], at: usize) -> Option<(u32, usize)>
-    ensures { IfSome result (λ seen. field 1 most_base s.now at ≡ got seen.0 seen.1) }
-{
-    glance_at(s, at, 1, 2, 3)
-}
+pub const KEY: Bounds = Bounds {
+    low: 1,
+    high: 4294967295,
+    more: 4,
+    last: 15,
+};
 
-// A right, seen at a glance.
-pub fn glance_right(s: &[u8], at: usize) -> Option<(u32, usize)>
-    ensures { IfSome result (λ seen. field 1 most_right s.now at ≡ got seen.0 seen.1) }
-{
-    glance_at(s, at, 1, 0, 32)
-}
+pub const OBJECT: Bounds = Bounds {
+    low: 0,
+    high: 65535,
+    more: 2,
+    last: 3,
+};
 
-// A key, seen at a glance.
-pub fn glance_key(s: &[u8], at: usize) -> Option<(u32, usize)>
-    ensures { IfSome result (λ seen. field 1 most_key s.now at ≡ got seen.0 seen.1) }
-{
-    glance_at(s, at, 1, 4, 15)
-}
+pub const RIGHT: Bounds = Bounds {
+    low: 1,
+    high: 32,
+    more: 0,
+    last: 32,
+};
 
-// The length of a path, seen at a glance.
-pub fn glance_length(s: &[u8], at: usize) -> Option<(u32, usize)>
-    ensures { IfSome result (λ seen. field 0 most_names s.now at ≡ got seen.0 seen.1) }
-{
-    glance_at(s, at, 0, 0, 4)
-}
-
-// An object.
-fn read_object(s: &[u8], at: usize) -> Result<(u32, usize), Fault>
-    ensures { result ≡ found (field 0 most_object s.now at) }
-{
-    match glance_object(s, at) {
-        Some(seen) => Ok(seen),
-        None => read_field(s, at, 0, MOST_OBJECT),
-    }
-}
-
-// A right.
-fn read_right(s: &[u8], at: usize) -> Result<(u32, usize), Fault>
-    ensures { result ≡ found (field 1 most_right s.now at) }
-{
-    match glance_right(s, at) {
-        Some(seen) => Ok(seen),
-        None => read_field(s, at, 1, MOST_RIGHT),
-    }
-}
-
-// A base name.
-pub fn read_base(s: &[u8], at: usize) -> Result<(u32, usize), Fault>
-    ensures { result ≡ found (field 1 most_base s.now at) }
-{
-    match glance_base(s, at) {
-        Some(seen) => Ok(seen),
-        None => read_field(s, at, 1, MOST_BASE),
-    }
-}
+pub const BASE: Bounds = Bounds {
+    low: 1,
+    high: 65535,
+    more: 2,
+    last: 3,
+};
 
 // The length of a path.
-pub fn read_length(s: &[u8], at: usize) -> Result<(u32, usize), Fault>
-    ensures { result ≡ found (field 0 most_names s.now at) }
-{
-    match glance_length(s, at) {
-        Some(seen) => Ok(seen),
-        None => read_field(s, at, 0, MOST_NAMES),
+pub const LENGTH: Bounds = Bounds {
+    low: 0,
+    high: 4,
+    more: 0,
+    last: 4,
+};
+
+impl Bounds {
+    // The number at the place `at`, if a glance tells that it is in these bounds.
+    pub fn glance(self, s: &[u8], at: usize) -> Option<(u32, usize)>
+        ensures { IfSome result (λ seen. field self.low self.high s.now at ≡ got seen.0 seen.1) }
+    {
+        glance_at(s, at, self.low, self.more, self.last)
+    }
+
+    // The number at the place `at`, which is to be in these bounds.
+    pub fn read(self, s: &[u8], at: usize) -> Result<(u32, usize), Fault>
+        ensures { result ≡ found (field self.low self.high s.now at) }
+    {
+        match self.glance(s, at) {
+            Some(seen) => Ok(seen),
+            None => read_field(s, at, self.low, self.high),
+        }
     }
 }
 
@@ -141,7 +120,7 @@ pub fn read_space(s: &[u8], at: usize, spaces: usize) -> Result<(Space, usize), 
 pub fn read_key(s: &[u8], at: usize) -> Result<(Key, usize), Fault>
     ensures { result ≡ found (key_field s.now at) }
 {
-    let (value, next) = read_field(s, at, 1, MOST_KEY)?;
+    let (value, next) = KEY.read(s, at)?;
     Ok((Key(value), next))
 }
 
@@ -159,7 +138,7 @@ pub fn read_depth(s: &[u8], at: usize) -> Result<(Depth, usize), Fault>
 pub fn read_use(s: &[u8], at: usize) -> Result<(Use, usize), Fault>
     ensures { result ≡ found_as use_value (use_fields s.now at) }
 {
-    let (object, middle) = read_object(s, at)?;
-    let (right, next) = read_right(s, middle)?;
+    let (object, middle) = OBJECT.read(s, at)?;
+    let (right, next) = RIGHT.read(s, middle)?;
     Ok((Use { object, right }, next))
 }

@@ -9,7 +9,7 @@ ghost use Rattle.records.specs.Delegations.{delegation_record};
 ghost use Rattle.records.specs.KeyRecords.{key_access_record, key_delegation_record};
 ghost use Rattle.records.specs.Passing.{Passes, PassesBinding, Sifts, is_for};
 
-use crate::fields::{Use, glance_base, glance_key, glance_length, glance_object, glance_right};
+use crate::fields::{BASE, KEY, LENGTH, OBJECT, RIGHT, Use};
 use rules::Key;
 use wire::glancing::glance_at;
 
@@ -17,7 +17,7 @@ use wire::glancing::glance_at;
 fn pass_key(s: &[u8], at: usize) -> Option<usize>
     ensures { IfSome result (λ next. Passes key_field s.now at next) }
 {
-    let (_, next) = glance_key(s, at)?;
+    let (_, next) = KEY.glance(s, at)?;
     Some(next)
 }
 
@@ -44,8 +44,8 @@ fn pass_depth(s: &[u8], at: usize) -> Option<usize>
 fn pass_use(s: &[u8], at: usize) -> Option<usize>
     ensures { IfSome result (λ next. Passes use_fields s.now at next) }
 {
-    let (_, middle) = glance_object(s, at)?;
-    let (_, next) = glance_right(s, middle)?;
+    let (_, middle) = OBJECT.glance(s, at)?;
+    let (_, next) = RIGHT.glance(s, middle)?;
     Some(next)
 }
 
@@ -55,7 +55,7 @@ fn pass_names(s: &[u8], from: usize, count: u32) -> Option<usize>
 {
     let mut at = from;
     for _ in 0..count {
-        let (_, next) = glance_base(s, at)?;
+        let (_, next) = BASE.glance(s, at)?;
         at = next;
     }
     Some(at)
@@ -65,7 +65,7 @@ fn pass_names(s: &[u8], from: usize, count: u32) -> Option<usize>
 fn pass_path(s: &[u8], at: usize) -> Option<usize>
     ensures { IfSome result (λ next. Passes path_field s.now at next) }
 {
-    let (count, first) = glance_length(s, at)?;
+    let (count, first) = LENGTH.glance(s, at)?;
     pass_names(s, first, count)
 }
 
@@ -96,7 +96,7 @@ pub fn pass_binding(rest: &[u8], spaces: usize) -> Option<(u32, usize)>
     if spaces <= space as usize {
         return None;
     }
-    let (base, at2) = glance_base(rest, at1)?;
+    let (base, at2) = BASE.glance(rest, at1)?;
     let next = pass_target(rest, at2, spaces)?;
     Some((space * 65536 + base, next))
 }
@@ -133,9 +133,9 @@ fn is_for(owner: Key, wanted: Use, who: u32, object: u32, right: u32) -> bool
 fn pass_from_owner(s: &[u8], at: usize, owner: Key, wanted: Use) -> Option<(usize, bool)>
     ensures { IfSome result (λ passed. Sifts (key_field ⊗ use_fields ⊗ key_field ⊗ depth_field) (λ w. is_for owner.0 wanted.object wanted.right w.0 w.1.0.0 w.1.0.1) s.now at passed.0 passed.1) }
 {
-    let (who, at1) = glance_key(s, at)?;
-    let (object, at2) = glance_object(s, at1)?;
-    let (right, at3) = glance_right(s, at2)?;
+    let (who, at1) = KEY.glance(s, at)?;
+    let (object, at2) = OBJECT.glance(s, at1)?;
+    let (right, at3) = RIGHT.glance(s, at2)?;
     let at4 = pass_key(s, at3)?;
     let next = pass_depth(s, at4)?;
     Some((next, is_for(owner, wanted, who, object, right)))

@@ -4,7 +4,7 @@ ghost use Rattle.records.specs.Parsed.{found_as};
 ghost use Rattle.records.specs.Paths.{names_from, path_field, path_value};
 
 use crate::faults::Fault;
-use crate::fields::{read_base, read_length};
+use crate::fields::{BASE, LENGTH};
 
 // The base names; those from `length` on are 0.
 #[derive(Clone, Copy, PartialEq, Eq)]
@@ -37,19 +37,19 @@ fn read_names(s: &[u8], at: usize, count: u32) -> Result<(Path, usize), Fault>
     if count == 0 {
         return Ok((path_of(0, 0, 0, 0, 0), at));
     }
-    let (first, at1) = read_base(s, at)?;
+    let (first, at1) = BASE.read(s, at)?;
     if count == 1 {
         return Ok((path_of(1, first, 0, 0, 0), at1));
     }
-    let (second, at2) = read_base(s, at1)?;
+    let (second, at2) = BASE.read(s, at1)?;
     if count == 2 {
         return Ok((path_of(2, first, second, 0, 0), at2));
     }
-    let (third, at3) = read_base(s, at2)?;
+    let (third, at3) = BASE.read(s, at2)?;
     if count == 3 {
         return Ok((path_of(3, first, second, third, 0), at3));
     }
-    let (fourth, at4) = read_base(s, at3)?;
+    let (fourth, at4) = BASE.read(s, at3)?;
     Ok((path_of(4, first, second, third, fourth), at4))
 }
 
@@ -57,6 +57,6 @@ fn read_names(s: &[u8], at: usize, count: u32) -> Result<(Path, usize), Fault>
 pub fn read_path(s: &[u8], at: usize) -> Result<(Path, usize), Fault>
     ensures { result ≡ found_as path_value (path_field s.now at) }
 {
-    let (count, next) = read_length(s, at)?;
+    let (count, next) = LENGTH.read(s, at)?;
     read_names(s, next, count)
 }
