@@ -67,10 +67,7 @@ impl<'a> Good<'a> {
         ensures { Gives (GivesTo (table_at self.now.names.table.now) sheet.now (asked_of asked.owner asked.wanted) i) result }
     {
         let access = self.access(i);
-        if access.owner.0 != asked.owner.0
-            || access.wanted.object != asked.wanted.object
-            || access.wanted.right != asked.wanted.right
-        {
+        if access.owner != asked.owner || access.wanted != asked.wanted {
             return None;
         }
         let to = self.names.follow_name(sheet, access.owner, access.path)?;
@@ -86,9 +83,7 @@ impl<'a> Good<'a> {
         ensures { Hands (HandsOn (table_at self.now.names.table.now) sheet.now (asked_of asked.owner asked.wanted) j) result }
     {
         let delegation = self.delegation(j);
-        if delegation.wanted.object != asked.wanted.object
-            || delegation.wanted.right != asked.wanted.right
-        {
+        if delegation.wanted != asked.wanted {
             return None;
         }
         let writer = delegation.writer;
