@@ -21,14 +21,13 @@ fn is_near(row: &[u32], at: usize, number: u32) -> bool
 fn pass_eights(row: &[u32], number: u32) -> usize
     ensures { Passed row.now number result }
 {
-    let mut at = 0;
-    while 8 <= row.len() - at {
-        if is_near(row, at, number) {
-            return at;
+    let eights = row.len() / 8;
+    for k in 0..eights {
+        if is_near(row, 8 * k, number) {
+            return 8 * k;
         }
-        at += 8;
     }
-    at
+    8 * eights
 }
 
 // Where the number stands first.

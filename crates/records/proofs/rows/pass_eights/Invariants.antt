@@ -1,11 +1,7 @@
--- `pass_eights`: those before `at` are others.
-use Prim.Native.Nat.{◌-◌}
-use lib.ListN.{length}
+-- `pass_eights`: those before the next eight are others.
+use Prim.Native.Nat.{◌*◌}
 use Rattle.records.specs.Rows.{Passed}
 use Rattle.records.proofs.rows.pass_eights.Given as goal
 
-abbrev pub invariant-loop-at : goal.invariant-loop-at
-invariant-loop-at l = Passed l.row l.number l.at
-
-abbrev pub decreases-loop-at : goal.decreases-loop-at
-decreases-loop-at l = length l.row - l.at
+abbrev pub invariant-loop-k : goal.invariant-loop-k
+invariant-loop-k l = Passed l.row l.number (8 * l.k)
