@@ -1,14 +1,15 @@
 -- The decision's answers over a good table.
-use mathlib.Core.Path.{◌≡◌, sym, ◌∙◌, ap, subst}
+use mathlib.Core.Path.{◌≡◌, sym, ap, subst}
 use mathlib.Core.List.{List, []}
 use mathlib.Core.Option.{some}
-use Prim.Native.Nat.{ℕ, suc, ◌-◌, ◌<◌, ◌≤◌}
+use Prim.Native.Nat.{ℕ, ◌-◌, ◌<◌, ◌≤◌}
 use native.Mathlib.Omega.{arith}
 use lib.ListN.{length, take, drop, length-drop}
 use lib.Seq.{length-take-le, take_all}
+use Rattle.std.specs.Prelude.{Option, Some, None}
 use Rattle.rules.specs.Lists.{keep}
 use Rattle.rules.specs.Tables.{Path, Target, to_name, Asked, Request, Table}
-use Rattle.rules.specs.Depths.{top, made}
+use Rattle.rules.specs.Depths.{top}
 use Rattle.rules.specs.Ranges.{Good, most_bindings, most_delegations}
 use Rattle.rules.specs.Names.{Means, TargetMeans}
 use Rattle.rules.specs.Following.{InSheet, TargetLeads}
@@ -16,12 +17,8 @@ use Rattle.rules.specs.Access.{Name, Meaning, Writes, setting_by, setting, Grant
 use Rattle.rules.specs.Derivations.{Derivation, Holds, NoneIdle, Shown}
 use Rattle.rules.specs.Verdicts.{Verdict, Has, greatest, nothing}
 use Rattle.rules.specs.Verdicts as verdict
-use Rattle.rules.specs.Greatest.{verdict_of}
 use Rattle.rules.specs.declared.Key.{Key}
 use Rattle.rules.specs.declared.Space.{Space}
-use Rattle.rules.specs.declared.Depth.{Depth}
-use Rattle.rules.specs.declared.Made.{Made}
-use Rattle.rules.specs.declared.Made.TheVariants as made
 use Rattle.rules.proofs.SheetsLaws.{exact_leads}
 use Rattle.rules.proofs.AccessLaws.{granted_within}
 use Rattle.records.specs.Requests.{read_request}
@@ -35,8 +32,7 @@ use Rattle.sheet.proofs.FindsLaws.{finds_key, finds_none}
 use Rattle.matching.specs.Matching.{told}
 use Rattle.marking.specs.Marks.{marked}
 use Rattle.marking.specs.Needed.{Listed}
-use Rattle.reach.proofs.CodesLaws.{code_depth}
-use Rattle.decision.specs.Settling.{ChainAt, Settles}
+use Rattle.decision.specs.Settling.{SettlesAt}
 use Rattle.decision.specs.Showing.{AllWritten}
 use Rattle.decision.specs.Writing.{WritesDerivation, bytes, overrun}
 use Rattle.decision.specs.Promise.{sheet_size, Ready, DecidesGood}
@@ -45,8 +41,6 @@ use Rattle.decision.specs.Deciding.{Shows, answer_of, DecidesAs}
 use Rattle.decision.specs.declared.Decided.{Decided}
 use Rattle.decision.specs.declared.Decided.TheVariants as decided
 use Rattle.decision.specs.declared.settling.Settled.{Settled}
-use Rattle.decision.specs.declared.writing.Written.{Written}
-use Rattle.decision.specs.declared.writing.Written.TheVariants as written
 use Rattle.decision.proofs.DerivingLaws.{shown_holds, shown_none_idle}
 use Rattle.decision.proofs.ListedLaws.{all_below, keep_few, ordered_below, chain_listed, chain_written, chain_all_written}
 
@@ -63,18 +57,6 @@ has_so : (M N : Meaning) (t : Table) (q : Asked Space) → ((S : Space) (p : Pat
 has_so M N t q to from (greatest g h) = greatest (granted_so M N t q to g) (λ e x. h e (granted_so N M t q from x))
 has_so M N t q to from (nothing f) = nothing (λ e x. f e (granted_so N M t q from x))
 
--- ---- the answer of a code
-pub code_granted : (c : ℕ) → (c ≡ 0 → ⊥) → c ≤ suc top → (m : Made) → m ≡ made (c - 1) → (d : Depth) → m ≡ made.Good d
-    → (w : Written) (n : ℕ) → w ≡ written.Bytes n → decided.Granted d n ≡ answer_of c w
-code_granted c any most m is d e w n h =
-    let p : suc (c - 1) ≡ c = omega arith in
-    ap (λ (x : Depth). decided.Granted x n) (code_depth c any most m is d e) ∙ ap (λ (x : ℕ). answer_of x (written.Bytes n)) p ∙ ap (answer_of c) (sym h)
-
-pub code_overrun : (c : ℕ) → (c ≡ 0 → ⊥) → (w : Written) → w ≡ written.Overrun → decided.Overrun ≡ answer_of c w
-code_overrun c any w h =
-    let p : suc (c - 1) ≡ c = omega arith in
-    ap (λ (x : ℕ). answer_of x written.Overrun) p ∙ ap (answer_of c) (sym h)
-
 -- ---- the chain's part of its array
 slice_all : (n : ℕ) (l : List ℕ) → length l ≡ top → take (top - n) (drop n l) ≡ drop n l
 slice_all n l e = take_all (top - n) (drop n l) (omega (arith, e, length-drop n l))
@@ -90,28 +72,25 @@ module _ (t : Table) (good : Good t) (sheet₀ sheet order : List ℕ) (n : ℕ)
   pub has_means : (q : Asked Space) {k : Key} {v : Verdict} → Has (setting_by (told t sheet) t q) k v → Has (setting t q) k v
   has_means q h = has_so (told t sheet) (Means t.names) t q to_means to_told h
 
-  pub listed_there : n ≤ length order → Listed t.names sheet order n
-  listed_there h = record { exact = filled.exact; filling = filled.filling; room = h }
+  pub listed_there : Listed t.names sheet (take n order)
+  listed_there = record { exact = filled.exact; filling = filled.filling }
 
-  pub few_listed : n ≤ most_bindings
-  few_listed = omega (arith, filled.few, good.few_bindings)
+  few_filled : n ≤ most_bindings
+  few_filled = omega (arith, filled.few, good.few_bindings)
+
+  pub few_listed : n ≤ length order → length (take n order) ≤ most_bindings
+  few_listed h = omega (arith, length-take-le n order h, few_filled)
 
   -- What is settled with a depth is a chain of records.
-  module _ (q : Asked Space) (key : Key) (chain : List ℕ) (r : Settled) (settles : Settles t sheet q key chain r) (any : r.code ≡ 0 → ⊥) where
-    shown_so : ChainAt (setting_by (told t sheet) t q) key (r.code - 1) r.access (drop r.first chain) × (r.first ≤ top)
-    shown_so = settles.shown (r.code - 1) (omega arith)
-
-    pub chain_first : r.first ≤ top
-    chain_first = shown_so.1
-
+  module _ (q : Asked Space) (key : Key) (chain : List ℕ) (r : Settled) (settles : SettlesAt t sheet q key chain r) where
     pub access_there : r.access < length t.accesses
-    access_there = chain_listed (told t sheet) t q shown_so.0.chain
+    access_there = chain_listed (told t sheet) t q settles.shown.chain
 
     pub chain_short : length chain ≡ top → length (take (top - r.first) (drop r.first chain)) ≤ top
     chain_short size = omega (arith, ap length (slice_all r.first chain size), size, length-drop r.first chain)
 
     pub all_written : length chain ≡ top → AllWritten t (take (top - r.first) (drop r.first chain))
-    all_written size = subst (AllWritten t) (sym (slice_all r.first chain size)) (chain_all_written (told t sheet) t q shown_so.0.chain)
+    all_written size = subst (AllWritten t) (sym (slice_all r.first chain size)) (chain_all_written (told t sheet) t q settles.shown.chain)
 
   -- The answers.
   module _ (subject : Target) (q : Asked Space) (derivation₀ : List ℕ) (size : length sheet ≡ length sheet₀) (room_of_sheet : sheet_size ≤ length sheet₀) (room : most_derivation ≤ length derivation₀) where
@@ -125,26 +104,26 @@ module _ (t : Table) (good : Good t) (sheet₀ sheet order : List ℕ) (n : ℕ)
       pub no_name : meant ≡ followed.Nothing → DecidesAs t subject q sheet₀ derivation₀ decided.Unnamed sheet derivation₀
       no_name e s read = promise.unnamed (ready s read) (λ k m. finds_none finds e k ((exact_leads t.names good.names sheet filled.exact subject k).1 m))
 
-      module _ (key : Key) (e : meant ≡ followed.Key key) (chain : List ℕ) (r : Settled) (settles : Settles t sheet q key chain r) where
+      module _ (key : Key) (e : meant ≡ followed.Key key) (chain : List ℕ) where
         means : TargetMeans t.names subject key
         means = (exact_leads t.names good.names sheet filled.exact subject key).0 (finds_key finds e)
 
-        pub no_access : r.code ≡ 0 → DecidesAs t subject q sheet₀ derivation₀ decided.Denied sheet derivation₀
-        no_access z s read = promise.denied (ready s read) means (subst (λ (c : ℕ). Has (setting t q) key (verdict_of c)) z (has_means q settles.has))
+        pub no_access : Has (setting_by (told t sheet) t q) key verdict.denied → DecidesAs t subject q sheet₀ derivation₀ decided.Denied sheet derivation₀
+        no_access h s read = promise.denied (ready s read) means (has_means q h)
 
-        module _ (any : r.code ≡ 0 → ⊥) (full : length chain ≡ top) (derivation : List ℕ) (w : Written)
+        module _ (r : Settled) (settles : SettlesAt t sheet q key chain r) (full : length chain ≡ top) (derivation : List ℕ) (w : Option ℕ)
             (wrote : Shows t subject r.access (take (top - r.first) (drop r.first chain)) (take n order) derivation₀ derivation w) where
           shows : Shows t subject r.access (drop r.first chain) (take n order) derivation₀ derivation w
           shows = subst (λ (c : List ℕ). Shows t subject r.access c (take n order) derivation₀ derivation w) (slice_all r.first chain full) wrote
 
           abbrev d : ℕ
-          d = r.code - 1
+          d = r.depth.0
 
           abbrev shown : Derivation
           shown = record { bindings = keep (marked shows.marks) (take n order); access = r.access; delegations = drop r.first chain }
 
           holds : Holds t request shown d
-          holds = shown_holds t good sheet filled.exact (take n order) filled.filling filled.at_rest request r.access (drop r.first chain) shows.marks shows.all key d means (shown_so q key chain r settles any).0
+          holds = shown_holds t good sheet filled.exact (take n order) filled.filling filled.at_rest request r.access (drop r.first chain) shows.marks shows.all key d means settles.shown
 
           idle : NoneIdle t request shown
           idle = shown_none_idle t good sheet filled.exact (take n order) filled.filling filled.at_rest request r.access (drop r.first chain) shows.marks shows.all
@@ -156,29 +135,29 @@ module _ (t : Table) (good : Good t) (sheet₀ sheet order : List ℕ) (n : ℕ)
           comes = record { derivation = shown; holds = holds; none_idle = idle; short = short }
 
           room_for_listed : n ≤ length order → length shown.bindings ≤ most_bindings
-          room_for_listed h = omega (arith, keep_few (marked shows.marks) (take n order), length-take-le n order h, few_listed)
+          room_for_listed h = omega (arith, keep_few (marked shows.marks) (take n order), length-take-le n order h, few_filled)
 
           good_shown : n ≤ length order → GoodDerivation shown
           good_shown h = record {
             few = room_for_listed h;
             bindings = all_below shown.bindings most_bindings (λ x m. omega (arith, ordered_below t.names [] shown.bindings holds.ordered x m, good.few_bindings));
             none_twice = holds.none_twice;
-            access = omega (arith, access_there q key chain r settles any, good.few_accesses);
+            access = omega (arith, access_there q key chain r settles, good.few_accesses);
             short = short;
-            delegations = all_below shown.delegations most_delegations (λ x m. omega (arith, chain_written (told t sheet) t q (shown_so q key chain r settles any).0.chain x m, good.few_delegations));
+            delegations = all_below shown.delegations most_delegations (λ x m. omega (arith, chain_written (told t sheet) t q settles.shown.chain x m, good.few_delegations));
           }
 
           has : Has (setting t q) key (verdict.granted d)
-          has = subst (λ (c : ℕ). Has (setting t q) key (verdict_of c)) (let z : r.code ≡ suc (r.code - 1) = omega arith in z) (has_means q settles.has)
+          has = has_means q settles.has
 
-          pub answers : n ≤ length order → (a : Decided) → a ≡ answer_of r.code w → DecidesAs t subject q sheet₀ derivation₀ a sheet derivation
+          pub answers : n ≤ length order → (a : Decided) → a ≡ answer_of r.depth w → DecidesAs t subject q sheet₀ derivation₀ a sheet derivation
           unfolding comes
-          answers h a e s read = subst (λ (x : Decided). DecidesGood t s sheet₀ derivation₀ x sheet derivation) (sym (e ∙ ap (λ (c : ℕ). answer_of c w) (let z : r.code ≡ suc (r.code - 1) = omega arith in z))) (go w derivation shows.written)
+          answers h a e s read = subst (λ (x : Decided). DecidesGood t s sheet₀ derivation₀ x sheet derivation) (sym e) (go w derivation shows.written)
             where
-              go : (w : Written) (after : List ℕ) → WritesDerivation shown derivation₀ after w → DecidesGood t s sheet₀ derivation₀ (answer_of (suc d) w) sheet after
-              go (written.Bytes m) after (bytes fits same) =
+              go : (w : Option ℕ) (after : List ℕ) → WritesDerivation shown derivation₀ after w → DecidesGood t s sheet₀ derivation₀ (answer_of r.depth w) sheet after
+              go (Some m) after (bytes fits same) =
                   let l = derivation_reads shown (good_shown h) fits in
-                  subst (λ (x : List ℕ). DecidesGood t s sheet₀ derivation₀ (decided.Granted (record { 0 = d }) (length (derivation_bytes shown))) sheet x) (sym same)
+                  subst (λ (x : List ℕ). DecidesGood t s sheet₀ derivation₀ (decided.Granted r.depth (length (derivation_bytes shown))) sheet x) (sym same)
                   (promise.granted (ready s read) means has (record { shown = comes; laid = l.0; read = l.1; same = l.2 }))
-              go written.Overrun after (overrun long same) =
+              go None after (overrun long same) =
                   subst (λ (x : List ℕ). DecidesGood t s sheet₀ derivation₀ decided.Overrun sheet x) (sym same) (promise.overrun (ready s read) means has comes long)

@@ -8,6 +8,7 @@ use native.Mathlib.Numerals.{add-one}
 use lib.ListN.{length, take, set, length-append, get_or-append}
 use lib.Seq.{get_or-append_seam, take-suc-set}
 use Rattle.rules.specs.Lists.{◌▷◌}
+use Rattle.std.specs.Prelude.{Option, Some, None}
 use Rattle.rules.specs.Tables.{Asked, Table}
 use Rattle.rules.specs.Depths.{top}
 use Rattle.rules.specs.Ranges.{GoodNames}
@@ -30,8 +31,6 @@ use Rattle.reach.specs.Edges.{edge_of, froms, tos, depths_of, numbers_of}
 use Rattle.reach.specs.Graphs.{WroteTo, Edge, Drawn}
 use Rattle.reach.proofs.EdgesLaws.{froms_more, tos_more, depths_more, numbers_more}
 use Rattle.decision.specs.Gathering.{IsNode, space, FindsNode, DrawnSo}
-use Rattle.decision.specs.declared.gathering.NodeFound.{NodeFound}
-use Rattle.decision.specs.declared.gathering.NodeFound.TheVariants as found
 use Rattle.decision.proofs.GatheringLaws.{one_node_lem, finds_node, finds_nobody}
 
 -- ---- rows
@@ -131,10 +130,10 @@ module _ (t : Table) (good : GoodNames t.names) (sheet : List ℕ) (q : Asked Sp
             f.1,
           )
 
-      pub to_nobody : (a : NodeFound) → FindsNode t.names.spaces subject m a → a ≡ found.Nobody → RowsSo t sheet q subject (j + 1) from to depths numbers
+      pub to_nobody : (a : Option ℕ) → FindsNode t.names.spaces subject m a → a ≡ None → RowsSo t sheet q subject (j + 1) from to depths numbers
       to_nobody a f h = no_edge (λ c u v k l w x y. finds_nobody f h v (subst (N v) (says w).1 y))
 
-      pub one_more_edge : (a : NodeFound) → FindsNode t.names.spaces subject m a → (v : ℕ) → a ≡ found.Node v → RowsSo t sheet q subject (j + 1) (from ▷ S.0) (to ▷ v) (depths ▷ d.0) (numbers ▷ j)
+      pub one_more_edge : (a : Option ℕ) → FindsNode t.names.spaces subject m a → (v : ℕ) → a ≡ Some v → RowsSo t sheet q subject (j + 1) (from ▷ S.0) (to ▷ v) (depths ▷ d.0) (numbers ▷ j)
       one_more_edge a f v h =
           one_edge hands.writer m d.0 S.0 v wrote (space hands.writes.is_self) (finds_node v f h)
           (λ c x y k l w g i.
@@ -167,27 +166,15 @@ module _ (s keys names accesses delegations : List ℕ) (held : Held s keys name
   edge_depth_fits = (held.good.delegations j _ (hands_on g e).writes.at).depth
 
 -- ---- the loop
-pub record Drawing (t : Table) (sheet : List ℕ) (q : Asked Space) (subject : Key) (n : ℕ) (edges₀ edges : List ℕ) (m j : ℕ) : Type 0 where
-  pub most : j ≤ n
-  pub few : m ≤ j
-  pub same : length edges ≡ length edges₀
-  pub drawn : DrawnSo t sheet q subject j (take m edges)
+pub drawn_start : (t : Table) (sheet : List ℕ) (q : Asked Space) (subject : Key) (edges : List ℕ) → DrawnSo t sheet q subject 0 (take 0 edges)
+unfolding froms tos depths_of numbers_of
+drawn_start t sheet q subject edges = record {
+  same_to = refl;
+  same_depths = refl;
+  same_numbers = refl;
+  sound = λ e h. absurd (omega arith);
+  all = λ j d u v k m h. absurd (omega arith);
+}
 
-module _ (t : Table) (sheet : List ℕ) (q : Asked Space) (subject : Key) (n : ℕ) (edges₀ : List ℕ) where
-  pub drawing_start : Drawing t sheet q subject n edges₀ edges₀ 0 0
-  unfolding froms tos depths_of numbers_of
-  drawing_start = record {
-    most = omega arith;
-    few = omega arith;
-    same = refl;
-    drawn = record {
-      same_to = refl;
-      same_depths = refl;
-      same_numbers = refl;
-      sound = λ e h. absurd (omega arith);
-      all = λ j d u v k m h. absurd (omega arith);
-    };
-  }
-
-  pub drawing_end : (edges : List ℕ) (m j : ℕ) → Drawing t sheet q subject n edges₀ edges m j → n ≤ j → DrawnSo t sheet q subject n (take m edges) × (m ≤ n)
-  drawing_end edges m j w h = let e : j ≡ n = omega (arith, w.most) in (subst (λ (x : ℕ). DrawnSo t sheet q subject x (take m edges)) e w.drawn, omega (arith, e, w.few))
+pub drawn_all : (t : Table) (sheet : List ℕ) (q : Asked Space) (subject : Key) (j n : ℕ) (edges : List ℕ) → n ≤ j → j ≤ n → DrawnSo t sheet q subject j edges → DrawnSo t sheet q subject n edges
+drawn_all t sheet q subject j n edges h l w = let e : j ≡ n = omega arith in subst (λ (x : ℕ). DrawnSo t sheet q subject x edges) e w

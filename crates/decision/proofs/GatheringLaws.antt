@@ -6,6 +6,7 @@ use native.Mathlib.Omega.{arith}
 use native.Mathlib.Decide.{ℕ_discrete}
 use lib.ListN.{length, set, length-map}
 use lib.Seq.{get_or-set_same, get_or-set_other}
+use Rattle.std.specs.Prelude.{Option, Some, None}
 use Rattle.rules.specs.Tables.{Asked, Table}
 use Rattle.rules.specs.Depths.{top}
 use Rattle.rules.specs.Ranges.{GoodNames}
@@ -30,8 +31,6 @@ use Rattle.matching.proofs.MatchingLaws.{gives_to, gives_none}
 use Rattle.reach.specs.Graphs.{RootTo}
 use Rattle.decision.specs.Gathering.{IsNode, space, stranger, FindsNode, node, GivenSo}
 use Rattle.decision.specs.Gathering.{nobody as no_node}
-use Rattle.decision.specs.declared.gathering.NodeFound.{NodeFound}
-use Rattle.decision.specs.declared.gathering.NodeFound.TheVariants as found
 
 -- ---- nodes
 module _ (spaces : List Key) (subject : Key) where
@@ -62,23 +61,23 @@ module _ (spaces : List Key) (subject : Key) where
   not_node (stranger h) f g = g refl
 
 module _ (keys : List ℕ) (subject k : Key) (r : SpaceFound) (f : FindsSpace (keys_of keys) k r) where
-  pub node_space : (S : Space) → r ≡ as_space.Space S → FindsNode (keys_of keys) subject k (found.Node S.0)
+  pub node_space : (S : Space) → r ≡ as_space.Space S → FindsNode (keys_of keys) subject k (Some S.0)
   node_space S e = node (space (space_has S f e))
 
-  pub node_stranger : r ≡ as_space.None → k.0 ≡ subject.0 → FindsNode (keys_of keys) subject k (found.Node (length keys))
+  pub node_stranger : r ≡ as_space.None → k.0 ≡ subject.0 → FindsNode (keys_of keys) subject k (Some (length keys))
   node_stranger e h =
       let q : subject ≡ k = λ i. record { 0 = sym h i } in
-      subst (λ (n : ℕ). FindsNode (keys_of keys) subject k (found.Node n)) (length-map {B = Key} keys (λ (n : ℕ). record { 0 = n }))
+      subst (λ (n : ℕ). FindsNode (keys_of keys) subject k (Some n)) (length-map {B = Key} keys (λ (n : ℕ). record { 0 = n }))
       (node (subst (λ (m : Key). IsNode (keys_of keys) subject (length (keys_of keys)) m) q (stranger (λ S s. space_none f e S (subst (λ (m : Key). IsSelf (keys_of keys) S m) q s)))))
 
-  pub node_nobody : r ≡ as_space.None → (k.0 ≡ subject.0 → ⊥) → FindsNode (keys_of keys) subject k found.Nobody
+  pub node_nobody : r ≡ as_space.None → (k.0 ≡ subject.0 → ⊥) → FindsNode (keys_of keys) subject k None
   node_nobody e h = no_node (λ v n. not_node (keys_of keys) subject n (space_none f e) h)
 
-pub finds_node : {spaces : List Key} {subject k : Key} {r : NodeFound} (v : ℕ) → FindsNode spaces subject k r → r ≡ found.Node v → IsNode spaces subject v k
+pub finds_node : {spaces : List Key} {subject k : Key} {r : Option ℕ} (v : ℕ) → FindsNode spaces subject k r → r ≡ Some v → IsNode spaces subject v k
 finds_node {spaces} {subject} {k} v (node {v = u} n) e = let q : u ≡ v = cc in subst (λ (x : ℕ). IsNode spaces subject x k) q n
 finds_node v (no_node f) e = let z : ◌≡◌ {A = ℕ} 0 1 = cc in absurd (omega arith)
 
-pub finds_nobody : {spaces : List Key} {subject k : Key} {r : NodeFound} → FindsNode spaces subject k r → r ≡ found.Nobody → (v : ℕ) → IsNode spaces subject v k → ⊥
+pub finds_nobody : {spaces : List Key} {subject k : Key} {r : Option ℕ} → FindsNode spaces subject k r → r ≡ None → (v : ℕ) → IsNode spaces subject v k → ⊥
 finds_nobody (node n) e v m = let z : ◌≡◌ {A = ℕ} 0 1 = cc in absurd (omega arith)
 finds_nobody (no_node f) e v m = f v m
 
@@ -112,10 +111,10 @@ module _ (t : Table) (good : GoodNames t.names) (sheet : List ℕ) (q : Asked Sp
       root : RootTo Y i k d.0
       root = let w = gives_to found-so e in record { name = w.name; root = w.lists; means = w.leads }
 
-      pub given_nobody : (a : NodeFound) → FindsNode t.names.spaces subject k a → a ≡ found.Nobody → GivenSo t sheet q subject (i + 1) best roots
+      pub given_nobody : (a : Option ℕ) → FindsNode t.names.spaces subject k a → a ≡ None → GivenSo t sheet q subject (i + 1) best roots
       given_nobody a f h = enough (λ b v m x n. absurd (finds_nobody f h v (subst (N v) (same x root).0 n)))
 
-      module _ (a : NodeFound) (f : FindsNode t.names.spaces subject k a) (v : ℕ) (h : a ≡ found.Node v) where
+      module _ (a : Option ℕ) (f : FindsNode t.names.spaces subject k a) (v : ℕ) (h : a ≡ Some v) where
         is : N v k
         is = finds_node v f h
 
@@ -162,10 +161,10 @@ module _ (t : Table) (good : GoodNames t.names) (sheet : List ℕ) (q : Asked Sp
 
 -- ---- where code reads and writes
 module _ (s keys names accesses delegations : List ℕ) (held : Held s keys names accesses delegations) where
-  pub node_here : {subject k : Key} {a : NodeFound} → FindsNode (keys_of keys) subject k a → FindsNode (table_at s).names.spaces subject k a
+  pub node_here : {subject k : Key} {a : Option ℕ} → FindsNode (keys_of keys) subject k a → FindsNode (table_at s).names.spaces subject k a
   node_here {subject} {k} {a} f = subst (λ (l : List Key). FindsNode l subject k a) held.index.spaces f
 
-  pub node_fits : (subject k : Key) (a : NodeFound) (v : ℕ) → FindsNode (keys_of keys) subject k a → a ≡ found.Node v → v ≤ length keys
+  pub node_fits : (subject k : Key) (a : Option ℕ) (v : ℕ) → FindsNode (keys_of keys) subject k a → a ≡ Some v → v ≤ length keys
   node_fits subject k a v f e =
       omega (arith, node_below (table_at s).names.spaces subject (finds_node v (node_here f) e), index_spaces (table_at s).names keys names held.index)
 

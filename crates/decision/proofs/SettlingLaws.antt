@@ -1,17 +1,19 @@
 -- The codes of the graph settle what the subject has.
-use mathlib.Core.Path.{◌≡◌, refl, sym, ◌∙◌, ap, subst}
+use mathlib.Core.Path.{◌≡◌, refl, sym, ap, subst}
 use mathlib.Core.List.{List}
 use Prim.Native.Nat.{ℕ, zero, suc, ◌+◌, ◌<◌, ◌≤◌}
 use native.Mathlib.Omega.{arith}
-use native.Mathlib.Decide.{ℕ_discrete}
-use lib.ListN.{length, drop, set, length-set, take, replicate, length-replicate}
-use lib.Seq.{ext_get_or, get_or-set_same, get_or-set_other, length-take-le}
+use lib.ListN.{length, drop, take, replicate, length-replicate}
+use lib.Seq.{length-take-le}
+use Rattle.std.specs.Prelude.{Option, Some, None}
 use Rattle.rules.specs.Tables.{Asked}
 use Rattle.rules.specs.Depths.{top}
 use Rattle.rules.specs.Ranges.{most_delegations, most_spaces}
 use Rattle.rules.specs.Sheets.{entry}
 use Rattle.rules.specs.Access.{Setting, setting_by}
 use Rattle.rules.specs.Verdicts.{Has}
+use Rattle.rules.specs.Verdicts as verdict
+use Rattle.rules.specs.declared.Depth.{Depth}
 use Rattle.rules.specs.Greatest.{verdict_of}
 use Rattle.rules.specs.declared.Key.{Key}
 use Rattle.rules.specs.declared.Space.{Space}
@@ -26,30 +28,17 @@ use Rattle.reach.specs.Graphs.{Graph, Traced}
 use Rattle.reach.proofs.EdgesLaws.{froms_length}
 use Rattle.reach.proofs.GraphsLaws.{settled, traced_chain}
 use Rattle.decision.specs.Gathering.{IsNode, space, stranger, FindsNode, GivenSo, DrawnSo}
-use Rattle.decision.specs.Settling.{Zeros, Settles}
-use Rattle.decision.specs.declared.gathering.NodeFound.{NodeFound}
-use Rattle.decision.specs.declared.gathering.NodeFound.TheVariants as found
+use Rattle.decision.specs.Settling.{Zeros, Settles, depth_of}
 use Rattle.decision.specs.declared.settling.Settled.{Settled}
 use Rattle.decision.proofs.GatheringLaws.{one_node_lem, one_key, node_below, finds_node, finds_nobody, node_here}
 
--- ---- a copy
-pub record Copied (source out₀ out : List ℕ) (i : ℕ) : Type 0 where
-  pub most : i ≤ length source
-  pub size : length out ≡ length out₀
-  pub same : (j : ℕ) → j < i → entry out j ≡ entry source j
+-- ---- the depth of a code
+pub depth_code : (n : ℕ) (d : Depth) → Some d ≡ depth_of n → n ≡ suc d.0
+depth_code zero d e = let y : ◌≡◌ {A = ℕ} 0 1 = cc e in absurd (omega arith)
+depth_code (suc n) d e = let q : d ≡ record { 0 = n } = cc e in ap suc (sym (ap (λ (x : Depth). x.0) q))
 
-pub copied_start : (source out : List ℕ) → Copied source out out 0
-copied_start source out = record { most = omega arith; size = refl; same = λ j h. absurd (omega arith) }
-
-pub copied_on : (source out₀ out : List ℕ) (i : ℕ) → length source ≡ length out₀ → Copied source out₀ out i → i < length source → Copied source out₀ (set out i (entry source i)) (i + 1)
-copied_on source out₀ out i e c h = record { most = omega arith; size = length-set out i (entry source i) ∙ c.size; same = λ j l. go j l (ℕ_discrete j i) }
-  where
-    go : (j : ℕ) → j < i + 1 → Dec (j ≡ i) → entry (set out i (entry source i)) j ≡ entry source j
-    go j l (yes z) = ap (entry (set out i (entry source i))) z ∙ get_or-set_same out i (entry source i) 0 (omega (arith, e, c.size)) ∙ sym (ap (entry source) z)
-    go j l (no z) = get_or-set_other out i j (entry source i) 0 z ∙ c.same j (omega arith)
-
-pub copied_end : (source out₀ out : List ℕ) (i : ℕ) → length source ≡ length out₀ → Copied source out₀ out i → length source ≤ i → out ≡ source
-copied_end source out₀ out i e c h = ext_get_or 0 out source (c.size ∙ sym e) (λ j l. c.same j (omega (arith, l, c.size, e)))
+pub some_code : (n : ℕ) (d : Depth) → Some d ≡ depth_of n → 0 < n
+some_code n d e = omega (arith, depth_code n d e)
 
 -- ---- the graph
 module _ (s keys names accesses delegations : List ℕ) (held : Held s keys names accesses delegations) (sheet : List ℕ) (q : Asked Space) (subject : Key) where
@@ -88,31 +77,36 @@ module _ (s keys names accesses delegations : List ℕ) (held : Held s keys name
         given = given;
       }
 
-      module _ (a : NodeFound) (f : FindsNode (keys_of keys) subject subject a) (chain : List ℕ) where
+      module _ (a : Option ℕ) (f : FindsNode (keys_of keys) subject subject a) (chain : List ℕ) where
         -- The subject has a node.
-        pub always_node : a ≡ found.Nobody → Settles (table_at s) sheet q subject chain (record { code = 0; access = 0; first = 0 })
-        always_node e = absurd (finds_nobody (node_here s keys names accesses delegations held f) e (length (table_at s).names.spaces) (stranger (λ S x. finds_nobody (node_here s keys names accesses delegations held f) e S.0 (space x))))
+        pub always_node : a ≡ None → ⊥
+        always_node e = finds_nobody (node_here s keys names accesses delegations held f) e (length (table_at s).names.spaces) (stranger (λ S x. finds_nobody (node_here s keys names accesses delegations held f) e S.0 (space x)))
 
-        module _ (v : ℕ) (e : a ≡ found.Node v) where
+        module _ (v : ℕ) (e : a ≡ Some v) where
           is : N v subject
           is = finds_node v (node_here s keys names accesses delegations held f) e
 
           has : Has Y subject (verdict_of (entry best v))
           has = settled Y fits N (length accesses) (length delegations) (froms edges) (tos edges) (depths_of edges) (numbers_of edges) start roots best by graph w v subject is
 
-          pub settles_none : entry best v ≡ 0 → Settles (table_at s) sheet q subject chain (record { code = 0; access = 0; first = 0 })
-          settles_none z = record { most = omega arith; has = subst (λ (c : ℕ). Has Y subject (verdict_of c)) z has; shown = λ d x. absurd (omega (arith, x)) }
+          pub settles_none : None ≡ depth_of (entry best v) → Settles (table_at s) sheet q subject chain None
+          settles_none z = go (entry best v) z has
+            where
+              go : (n : ℕ) → None ≡ depth_of n → Has Y subject (verdict_of n) → Has Y subject verdict.denied
+              go zero z h = h
+              go (suc d) z h = let y : ◌≡◌ {A = ℕ} 0 1 = cc z in absurd (omega arith)
 
-          pub settles_some : (r : Settled) → r.code ≡ entry best v → Traced (froms edges) (numbers_of edges) start best roots by v r.access (drop r.first chain) × (r.first ≤ top) → Settles (table_at s) sheet q subject chain r
+          pub settles_some : (r : Settled) → Some r.depth ≡ depth_of (entry best v) → Traced (froms edges) (numbers_of edges) start best roots by v r.access (drop r.first chain) × (r.first ≤ top) → Settles (table_at s) sheet q subject chain (Some r)
           settles_some r c t = record {
-            most = omega (arith, c, w.risen.lent.codes v);
-            has = subst (λ (n : ℕ). Has Y subject (verdict_of n)) (sym c) has;
-            shown = λ d x. (
-              let z = traced_chain Y fits N (length accesses) (length delegations) (froms edges) (tos edges) (depths_of edges) (numbers_of edges) start roots best by graph w t.0 d subject is (sym c ∙ x) in
-                  record { name = z.0; chain = z.1; means = z.2 },
-              t.1,
-            );
+            most = omega (arith, code, w.risen.lent.codes v);
+            has = subst (λ (n : ℕ). Has Y subject (verdict_of n)) code has;
+            shown = let z = traced_chain Y fits N (length accesses) (length delegations) (froms edges) (tos edges) (depths_of edges) (numbers_of edges) start roots best by graph w t.0 r.depth.0 subject is code in
+                record { name = z.0; chain = z.1; means = z.2 };
+            within = t.1;
           }
+            where
+              code : entry best v ≡ suc r.depth.0
+              code = depth_code (entry best v) r.depth c
 
 -- ---- after the copy
 pub lent_copy : (start copy by : List ℕ) → copy ≡ start → ((v : ℕ) → entry start v ≤ suc top) → length copy ≤ length by → Lent copy by

@@ -1,5 +1,5 @@
 -- What is marked of a derivation's records, path by path.
-use mathlib.Core.Path.{◌≡◌, refl, sym, ◌∙◌, ap, subst}
+use mathlib.Core.Path.{◌≡◌, sym, ◌∙◌, ap, subst}
 use mathlib.Core.Logic.{◌⊎◌, inl, inr}
 use mathlib.Core.Bool.{Bool, true, false}
 use mathlib.Core.List.{List, [], ◌∷◌}
@@ -7,7 +7,7 @@ use Prim.Native.Nat.{ℕ, zero, suc, ◌+◌, ◌<◌, ◌≤◌}
 use native.Mathlib.Numerals.{add-one}
 use native.Mathlib.Omega.{arith}
 use lib.ListN.{length, take, replicate}
-use lib.Seq.{take-suc, take_all}
+use lib.Seq.{take-suc}
 use Rattle.rules.specs.Lists.{At, ◌▷◌, In}
 use Rattle.rules.specs.Tables.{Path, Target, AccessRecord, Delegation, Table}
 use Rattle.rules.specs.Ranges.{Good}
@@ -104,9 +104,6 @@ pub record Marking (t : Table) (c : List ℕ) (before marks : List Bool) (i : �
   pub size : length marks ≡ length before
   pub adds : Adds (OfChain t (take i c)) before marks
 
-pub marking_start : (t : Table) (c : List ℕ) (before : List Bool) → Marking t c before before 0
-marking_start t c before = record { most = omega arith; size = refl; adds = record { kept = λ i h. h; added = λ i p. absurd p.1; only = λ i h. inl h } }
-
 pub marking_on : (t : Table) (c : List ℕ) (before marks after : List Bool) (i : ℕ) → Marking t c before marks i → i < length c → length after ≡ length marks → Adds (ByDelegation t (entry c i)) marks after → Marking t c before after (i + 1)
 marking_on t c before marks after i m h e w = record { most = omega arith; size = e ∙ m.size; adds = adds_as to from (adds_both m.adds w) }
   where
@@ -123,9 +120,6 @@ marking_on t c before marks after i m h e w = record { most = omega arith; size 
         either : In (take i c) j ⊎ (entry c i ≡ j) → OfChain t (take i c) b ⊎ ByDelegation t (entry c i) b
         either (inl y) = inl (j, y, x)
         either (inr q) = inr (subst (λ (n : ℕ). ByDelegation t n b) (sym q) x)
-
-pub marking_end : (t : Table) (c : List ℕ) (before marks : List Bool) (i : ℕ) → Marking t c before marks i → length c ≤ i → Adds (OfChain t c) before marks
-marking_end t c before marks i m h = subst (λ (l : List ℕ). Adds (OfChain t l) before marks) (take_all i c h) m.adds
 
 -- ---- all of it
 pub all_marked : (t : Table) (subject : Target) (access : ℕ) (c L : List ℕ) (m₀ m₁ m₂ m₃ m₄ : List Bool) → Unmarked m₀ → Adds (TargetThrough t.names subject) m₀ m₁ → Adds (ByAccess t access) m₁ m₂

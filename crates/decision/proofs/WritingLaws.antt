@@ -1,12 +1,12 @@
 -- How many bytes a derivation takes.
 use mathlib.Core.Path.{◌≡◌, refl, sym, ◌∙◌, ap, subst}
-use mathlib.Core.Bool.{Bool}
 use mathlib.Core.List.{List, [], ◌∷◌, ◌++◌}
 use Prim.Native.Nat.{ℕ, suc, ◌+◌, ◌*◌, ◌/◌, ◌<◌, ◌≤◌}
 use native.Mathlib.Numerals.{add-one}
 use native.Mathlib.Omega.{arith}
 use lib.ListN.{length, take, length-append}
 use lib.Seq.{take_all}
+use Rattle.std.specs.Prelude.{Some, None}
 use Rattle.rules.specs.Depths.{top}
 use Rattle.rules.specs.Ranges.{most_bindings}
 use Rattle.rules.specs.Sheets.{entry}
@@ -16,11 +16,8 @@ use Rattle.wire.proofs.NumberLaws.{bytes_last, bytes_on, bytes_short}
 use Rattle.records.specs.Many.{many_bytes}
 use Rattle.records.specs.DerivationBytes.{chain_bytes, derivation_bytes}
 use Rattle.records.proofs.ManyLaws.{many_take}
-use Rattle.decision.specs.Writing.{derivation_of, WritesDerivation, bytes, overrun}
-use Rattle.marking.specs.Kept.{Kept}
+use Rattle.decision.specs.Writing.{WritesDerivation, bytes, overrun}
 use Rattle.wire.specs.Placed.{placed}
-use Rattle.decision.specs.declared.writing.Written.{Written}
-use Rattle.decision.specs.declared.writing.Written.TheVariants as written
 
 pub size_one : (v : ℕ) → v < 128 → 1 ≡ length (bytes_of v)
 size_one v h = sym (ap length (bytes_last v h))
@@ -84,22 +81,14 @@ module _ (bindings chain : List ℕ) (access : ℕ) (few : length bindings ≤ m
   pub size_fits : (a + b) + (c + d + e) ≤ 2000
   size_fits = omega (arith, p, bytes_short (length bindings), q, many_short bindings, few, u, bytes_short (length chain + 1), v, bytes_short access, w, many_short chain, short)
 
-  pub too_long : (out : List ℕ) → 512 < (a + b) + (c + d + e) → WritesDerivation this out out written.Overrun
+  pub too_long : (out : List ℕ) → 512 < (a + b) + (c + d + e) → WritesDerivation this out out None
   too_long out h = overrun (omega (arith, is_size)) refl
 
-  pub it_fits : (out : List ℕ) → 512 ≤ length out → (a + b) + (c + d + e) ≤ 512 → length (derivation_bytes this) ≤ length out
-  it_fits out r h = omega (arith, is_size)
-
-  pub wrote_it : (before after : List ℕ) (n : ℕ) → (a + b) + (c + d + e) ≤ 512 → (n ≡ length (derivation_bytes this)) × (after ≡ placed before 0 (derivation_bytes this)) → WritesDerivation this before after (written.Bytes n)
-  wrote_it before after n h (x, y) = subst (λ (m : ℕ). WritesDerivation this before after (written.Bytes m)) (sym x) (bytes (omega (arith, is_size)) y)
+  pub wrote_it : (before after : List ℕ) (n : ℕ) → (a + b) + (c + d + e) ≤ 512 → (n ≡ length (derivation_bytes this)) × (after ≡ placed before 0 (derivation_bytes this)) → WritesDerivation this before after (Some n)
+  wrote_it before after n h (x, y) = subst (λ (m : ℕ). WritesDerivation this before after (Some m)) (sym x) (bytes (omega (arith, is_size)) y)
 
 pub listing_fits : (bindings : List ℕ) → length bindings ≤ most_bindings → (n a b : ℕ) → a ≡ length (bytes_of n) → b ≡ length (many_bytes bytes_of bindings) → a + b ≤ 1285
 listing_fits bindings few n a b p q = omega (arith, p, bytes_short n, q, many_short bindings, few)
 
 pub ending_fits : (m n c d : ℕ) → c ≡ length (bytes_of m) → d ≡ length (bytes_of n) → c + d ≤ 10
 ending_fits m n c d p q = omega (arith, p, bytes_short m, q, bytes_short n)
-
--- ---- with the marked ones kept
-pub kept_writes : (marks : List Bool) (order kept : List ℕ) (listed n access : ℕ) (chain before after : List ℕ) (r : Written) → Kept marks order listed kept n
-    → WritesDerivation (record { bindings = take n kept; access = access; delegations = chain }) before after r → WritesDerivation (derivation_of marks order listed access chain) before after r
-kept_writes marks order kept listed n access chain before after r k w = subst (λ (l : List ℕ). WritesDerivation (record { bindings = l; access = access; delegations = chain }) before after r) k.same w

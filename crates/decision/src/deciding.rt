@@ -1,5 +1,5 @@
 // The decision over a table that was found good.
-ghost use Rattle.std.specs.Prelude.{◌≡◌, suc, ◌<◌, ◌≤◌, length, take};
+ghost use Rattle.std.specs.Prelude.{◌<◌, ◌≤◌, length};
 ghost use Rattle.rules.specs.Depths.{top};
 ghost use Rattle.rules.specs.Ranges.{most_bindings};
 ghost use Rattle.records.specs.DerivationBytes.{most_derivation};
@@ -11,16 +11,16 @@ ghost use Rattle.marking.specs.Needed.{Listed};
 ghost use Rattle.matching.specs.Matching.{Held, asked_of};
 ghost use Rattle.decision.specs.Showing.{AllWritten};
 ghost use Rattle.decision.specs.Promise.{sheet_size, DecidesGood};
-ghost use Rattle.decision.specs.Deciding.{Shows, answer_of, DecidesAs};
+ghost use Rattle.decision.specs.Deciding.{Shows, DecidesAs};
 
 use crate::Decided;
 use crate::finding::find_chain;
 use crate::showing::mark_all;
-use crate::writing::{MOST_DERIVATION, Written, write_shown};
+use crate::writing::{MOST_DERIVATION, write_shown};
 use records::fields::Use;
 use records::requests::{RequestRead, read_request};
 use records::targets::Target;
-use rules::{Depth, Made, Space};
+use rules::Space;
 use sheet::filling::fill;
 use sheet::following::{Followed, follow_target};
 
@@ -36,16 +36,15 @@ fn show(
     delegations: &[u16],
     sheet: &[u32],
     order: &mut [u16],
-    listed: usize,
     subject: Target,
     access: usize,
     chain: &[u16],
     derivation: &mut [u8],
-) -> Written
+) -> Option<usize>
     requires { Known (table_at table.now).names table.now keys.now names.now bindings.now × Held table.now keys.now names.now accesses.now delegations.now
-        × Listed (table_at table.now).names sheet.now order.old listed × (listed ≤ most_bindings) × (length names.now ≤ length sheet.now) × FittingTarget (length keys.now) subject
+        × Listed (table_at table.now).names sheet.now order.old × (length order.old ≤ most_bindings) × (length names.now ≤ length sheet.now) × FittingTarget (length keys.now) subject
         × (access < length (table_at table.now).accesses) × AllWritten (table_at table.now) chain.now × (length chain.now ≤ top) × (most_derivation ≤ length derivation.old) }
-    ensures { Shows (table_at table.now) (target_of subject) access chain.now (take listed order.old) derivation.old derivation.new result }
+    ensures { Shows (table_at table.now) (target_of subject) access chain.now order.old derivation.old derivation.new result }
 {
     let mut marks = [false; 256];
     mark_all(
@@ -57,31 +56,12 @@ fn show(
         delegations,
         sheet,
         order,
-        listed,
         subject,
         access,
         chain,
         &mut marks,
     );
-    write_shown(&marks, order, listed, access as u16, chain, derivation)
-}
-
-// The answer that the greatest code and what was written stand for.
-fn answer_of(best: u8, written: Written) -> Decided
-    requires { best ≤ suc top }
-    ensures { result ≡ answer_of best written }
-{
-    if best == 0 {
-        return Decided::Denied;
-    }
-    let made = Depth::new(best as u32 - 1);
-    let Made::Good(depth) = made else {
-        return Decided::Denied;
-    };
-    match written {
-        Written::Bytes(length) => Decided::Granted(depth, length),
-        Written::Overrun => Decided::Overrun,
-    }
+    write_shown(&marks, order, access as u16, chain, derivation)
 }
 
 // Decides where there is room: the sheet is filled, the subject's key found, what it has settled, and the derivation written.
@@ -105,12 +85,11 @@ fn decide_roomy(
     let mut order = [0; 256];
     let mut edges = [0; 512];
     let listed = fill(table, keys, names, bindings, sheet, &mut order, &mut edges);
-    let meant = follow_target(keys, names, sheet, subject);
-    let Followed::Key(key) = meant else {
+    let Followed::Key(key) = follow_target(keys, names, sheet, subject) else {
         return Decided::Unnamed;
     };
     let mut chain = [0; 15];
-    let settled = find_chain(
+    let Some(settled) = find_chain(
         table,
         keys,
         names,
@@ -122,13 +101,9 @@ fn decide_roomy(
         key,
         &mut edges,
         &mut chain,
-    );
-    let code = settled.code;
-    if code == 0 {
+    ) else {
         return Decided::Denied;
-    }
-    let first = settled.first;
-    let access = settled.access;
+    };
     let written = show(
         table,
         keys,
@@ -137,14 +112,16 @@ fn decide_roomy(
         accesses,
         delegations,
         sheet,
-        &mut order,
-        listed,
+        &mut order[..listed],
         subject,
-        access,
-        &chain[first..],
+        settled.access,
+        &chain[settled.first..],
         derivation,
     );
-    answer_of(code, written)
+    match written {
+        Some(length) => Decided::Granted(settled.depth, length),
+        None => Decided::Overrun,
+    }
 }
 
 // The answer over a table that was found good.
@@ -162,8 +139,7 @@ pub fn decide_good(
     requires { Known (table_at table.now).names table.now keys.now names.now bindings.now × Held table.now keys.now names.now accesses.now delegations.now }
     ensures { DecidesGood (table_at table.now) request.now sheet.old derivation.old result sheet.new derivation.new }
 {
-    let asked = read_request(request, keys.len());
-    let RequestRead::Request(wish) = asked else {
+    let RequestRead::Request(wish) = read_request(request, keys.len()) else {
         return Decided::BadRequest;
     };
     if sheet.len() < SHEET_SIZE {
@@ -172,9 +148,6 @@ pub fn decide_good(
     if derivation.len() < MOST_DERIVATION {
         return Decided::Room;
     }
-    let subject = wish.subject;
-    let owner = wish.owner;
-    let wanted = wish.wanted;
     decide_roomy(
         table,
         keys,
@@ -182,9 +155,9 @@ pub fn decide_good(
         bindings,
         accesses,
         delegations,
-        subject,
-        owner,
-        wanted,
+        wish.subject,
+        wish.owner,
+        wish.wanted,
         sheet,
         derivation,
     )

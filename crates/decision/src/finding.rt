@@ -24,7 +24,7 @@ pub fn find_chain(
     subject: Key,
     edges: &mut [u32],
     chain: &mut [u16],
-) -> Settled
+) -> Option<Settled>
     requires { Held table.now keys.now names.now accesses.now delegations.now × (length names.now ≤ length sheet.now) × (owner.0 < length keys.now)
         × (length accesses.now ≤ most_accesses) × (length delegations.now ≤ most_delegations) × (most_delegations ≤ length edges.old) × (length chain.old ≡ top) }
     ensures { Settles (table_at table.now) sheet.now (asked_of owner wanted) subject chain.new result }

@@ -12,25 +12,19 @@ use records::fields::Use;
 use rules::{Key, Space};
 use table::finding::{SpaceFound, find_space};
 
-#[derive(Clone, Copy)]
-pub enum NodeFound {
-    Node(usize),
-    Nobody,
-}
-
 // The node of the key: its space, or the one behind all spaces if it is the subject's and has none.
-pub fn find_node(keys: &[u32], subject: Key, key: Key) -> NodeFound
+pub fn find_node(keys: &[u32], subject: Key, key: Key) -> Option<usize>
     requires { length keys.now ≤ 64 }
     ensures { FindsNode (keys_of keys.now) subject key result }
 {
-    let found = find_space(keys, key);
-    match found {
-        SpaceFound::Space(space) => NodeFound::Node(space.0),
+    match find_space(keys, key) {
+        SpaceFound::Space(space) => Some(space.0),
         SpaceFound::None => {
             if key.0 == subject.0 {
-                return NodeFound::Node(keys.len());
+                Some(keys.len())
+            } else {
+                None
             }
-            NodeFound::Nobody
         }
     }
 }
@@ -69,8 +63,7 @@ fn give_one(
     let Given::To(key, depth) = given else {
         return;
     };
-    let node = find_node(keys, subject, key);
-    let NodeFound::Node(v) = node else {
+    let Some(v) = find_node(keys, subject, key) else {
         return;
     };
     let code = depth.number() as u8 + 1;
@@ -100,8 +93,7 @@ pub fn give_all(
         × GivenSo (table_at table.now) sheet.now (asked_of owner wanted) subject 0 best.old roots.old }
     ensures { GivenSo (table_at table.now) sheet.now (asked_of owner wanted) subject (length accesses.now) best.new roots.new }
 {
-    let mut i = 0;
-    while i < accesses.len() {
+    for i in 0..accesses.len() {
         give_one(
             table,
             keys,
@@ -116,7 +108,6 @@ pub fn give_all(
             best,
             roots,
         );
-        i = i + 1;
     }
 }
 
@@ -155,8 +146,7 @@ fn draw_one(
     let Handed::On(writer, key, depth) = handed else {
         return m;
     };
-    let node = find_node(keys, subject, key);
-    let NodeFound::Node(v) = node else {
+    let Some(v) = find_node(keys, subject, key) else {
         return m;
     };
     edges[m] = edge(writer.0, v, depth.number(), j);
@@ -182,8 +172,7 @@ pub fn draw_all(
     ensures few { result ≤ length delegations.now }
 {
     let mut m = 0;
-    let mut j = 0;
-    while j < delegations.len() {
+    for j in 0..delegations.len() {
         m = draw_one(
             table,
             keys,
@@ -198,7 +187,6 @@ pub fn draw_all(
             edges,
             m,
         );
-        j = j + 1;
     }
     m
 }

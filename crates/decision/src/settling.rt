@@ -5,31 +5,33 @@ ghost use Rattle.rules.specs.Ranges.{most_accesses, most_delegations};
 ghost use Rattle.table.specs.ReadTable.{table_at};
 ghost use Rattle.matching.specs.Matching.{Held, asked_of};
 ghost use Rattle.decision.specs.Gathering.{DrawnSo};
-ghost use Rattle.decision.specs.Settling.{Zeros, Settles};
+ghost use Rattle.decision.specs.Settling.{Zeros, Settles, depth_of};
 
-use crate::gathering::{NodeFound, find_node, give_all};
+use crate::gathering::{find_node, give_all};
 use reach::{reach, trace};
 use records::fields::Use;
-use rules::{Key, Space};
+use rules::{Depth, Key, Made, Space};
 
-// The code of the greatest depth, 0 for none; else the number of the chain's access record, and where its delegations begin.
+// The greatest depth, the number of the chain's access record, and where its delegations begin.
 #[derive(Clone, Copy)]
 pub struct Settled {
-    pub code: u8,
+    pub depth: Depth,
     pub access: usize,
     pub first: usize,
 }
 
-// The same numbers.
-fn copy(source: &[u8], out: &mut [u8])
-    requires { length source.now ≡ length out.old }
-    ensures { out.new ≡ source.now }
+// The depth that the code stands for, if it stands for one.
+fn depth_of(code: u8) -> Option<Depth>
+    requires { code ≤ suc top }
+    ensures { result ≡ depth_of code }
 {
-    let mut i = 0;
-    while i < source.len() {
-        out[i] = source[i];
-        i = i + 1;
+    if code == 0 {
+        return None;
     }
+    let Made::Good(depth) = Depth::new(u32::from(code) - 1) else {
+        return None;
+    };
+    Some(depth)
 }
 
 // Settles what the subject has, over the edges that the delegations are; the chain's delegations stand at the end of `chain`.
@@ -49,7 +51,7 @@ pub fn settle(
     best: &mut [u8],
     by: &mut [u16],
     chain: &mut [u16],
-) -> Settled
+) -> Option<Settled>
     requires { Held table.now keys.now names.now accesses.now delegations.now × (length names.now ≤ length sheet.now) × (length accesses.now ≤ most_accesses) × (length delegations.now ≤ most_delegations)
         × DrawnSo (table_at table.now) sheet.now (asked_of owner wanted) subject (length delegations.now) edges.now × (length edges.now ≤ most_delegations)
         × (length begun.old ≡ suc (length keys.now)) × (length roots.old ≡ suc (length keys.now)) × (length best.old ≡ suc (length keys.now)) × (length by.old ≡ suc (length keys.now))
@@ -69,28 +71,14 @@ pub fn settle(
         begun,
         roots,
     );
-    copy(begun, best);
+    best.copy_from_slice(begun);
     reach(edges, best, by);
-    let node = find_node(keys, subject, subject);
-    let NodeFound::Node(v) = node else {
-        return Settled {
-            code: 0,
-            access: 0,
-            first: 0,
-        };
-    };
-    let code = best[v];
-    if code == 0 {
-        return Settled {
-            code: 0,
-            access: 0,
-            first: 0,
-        };
-    }
+    let v = find_node(keys, subject, subject)?;
+    let depth = depth_of(best[v])?;
     let trail = trace(edges, begun, best, roots, by, v, chain);
-    Settled {
-        code,
+    Some(Settled {
+        depth,
         access: trail.access,
         first: trail.first,
-    }
+    })
 }

@@ -1,5 +1,5 @@
 // Which bindings a derivation needs: those that the subject and the paths of its chain go through, and whatever these need.
-ghost use Rattle.std.specs.Prelude.{◌<◌, ◌≤◌, length, take};
+ghost use Rattle.std.specs.Prelude.{◌<◌, ◌≤◌, length};
 ghost use Rattle.rules.specs.Sheets.{Exact};
 ghost use Rattle.records.specs.Targets.{target_of};
 ghost use Rattle.table.specs.ReadTable.{table_at};
@@ -30,14 +30,11 @@ pub fn mark_access(
         × (i < length (table_at table.now).accesses) }
     ensures { AccessMarked (table_at table.now) i marks.old marks.new }
 {
-    let place = accesses[i] as usize;
-    let found = read_access(&table[place..], keys.len());
-    let AccessRead::Access(access, _) = found else {
+    let place = usize::from(accesses[i]);
+    let AccessRead::Access(access, _) = read_access(&table[place..], keys.len()) else {
         return;
     };
-    let owner = access.owner;
-    let path = access.path;
-    mark_name(keys, names, sheet, marks, owner, path);
+    mark_name(keys, names, sheet, marks, access.owner, access.path);
 }
 
 // Marks the bindings that the paths of delegation number `j` go through.
@@ -55,16 +52,14 @@ pub fn mark_delegation(
         × (j < length (table_at table.now).delegations) }
     ensures { DelegationMarked (table_at table.now) j marks.old marks.new }
 {
-    let place = delegations[j] as usize;
-    let found = read_delegation(&table[place..], keys.len());
-    let DelegationRead::Delegation(delegation, _) = found else {
+    let place = usize::from(delegations[j]);
+    let DelegationRead::Delegation(delegation, _) = read_delegation(&table[place..], keys.len())
+    else {
         return;
     };
     let writer = delegation.writer;
-    let owner = delegation.owner;
-    let path = delegation.delegatee;
-    mark_name(keys, names, sheet, marks, writer, owner);
-    mark_name(keys, names, sheet, marks, writer, path);
+    mark_name(keys, names, sheet, marks, writer, delegation.owner);
+    mark_name(keys, names, sheet, marks, writer, delegation.delegatee);
 }
 
 // Marks the bindings that the paths of the chain's delegations go through.
@@ -82,11 +77,17 @@ pub fn mark_chain(
         × AllWritten (table_at table.now) chain.now }
     ensures { ChainMarked (table_at table.now) chain.now marks.old marks.new }
 {
-    let mut i = 0;
-    while i < chain.len() {
-        let j = chain[i] as usize;
-        mark_delegation(table, keys, names, accesses, delegations, sheet, marks, j);
-        i = i + 1;
+    for j in chain {
+        mark_delegation(
+            table,
+            keys,
+            names,
+            accesses,
+            delegations,
+            sheet,
+            marks,
+            usize::from(*j),
+        );
     }
 }
 
@@ -100,16 +101,15 @@ pub fn mark_all(
     delegations: &[u16],
     sheet: &[u32],
     order: &[u16],
-    listed: usize,
     subject: Target,
     access: usize,
     chain: &[u16],
     marks: &mut [bool],
 )
     requires { Known (table_at table.now).names table.now keys.now names.now bindings.now × Held table.now keys.now names.now accesses.now delegations.now
-        × Listed (table_at table.now).names sheet.now order.now listed × (length names.now ≤ length sheet.now) × (length names.now ≤ length marks.old) × Unmarked marks.old
+        × Listed (table_at table.now).names sheet.now order.now × (length names.now ≤ length sheet.now) × (length names.now ≤ length marks.old) × Unmarked marks.old
         × FittingTarget (length keys.now) subject × (access < length (table_at table.now).accesses) × AllWritten (table_at table.now) chain.now }
-    ensures { AllMarked (table_at table.now) (target_of subject) access chain.now (take listed order.now) marks.new }
+    ensures { AllMarked (table_at table.now) (target_of subject) access chain.now order.now marks.new }
 {
     mark_target(keys, names, sheet, marks, subject);
     mark_access(
@@ -132,5 +132,5 @@ pub fn mark_all(
         marks,
         chain,
     );
-    mark_needed(table, keys, names, bindings, sheet, order, listed, marks);
+    mark_needed(table, keys, names, bindings, sheet, order, marks);
 }

@@ -12,23 +12,17 @@ use records::derivations::write_derivation;
 
 pub const MOST_DERIVATION: usize = 512;
 
-#[derive(Clone, Copy)]
-pub enum Written {
-    Bytes(usize),
-    Overrun,
-}
-
 // How many bytes the number takes.
 fn size_of(number: u16) -> usize
     ensures { result ≡ length (bytes_of number) }
 {
     if number < 128 {
-        return 1;
+        1
+    } else if number < 16384 {
+        2
+    } else {
+        3
     }
-    if number < 16384 {
-        return 2;
-    }
-    3
 }
 
 // How many bytes the numbers take.
@@ -37,32 +31,29 @@ fn size_of_all(numbers: &[u16]) -> usize
     ensures { result ≡ length (many_bytes bytes_of numbers.now) }
 {
     let mut sum = 0;
-    let mut i = 0;
-    while i < numbers.len() {
-        sum = sum + size_of(numbers[i]);
-        i = i + 1;
+    for x in numbers {
+        sum += size_of(*x);
     }
     sum
 }
 
-// Writes the derivation that lists the marked ones of the listed bindings, if it fits in 512 bytes.
+// Writes the derivation that lists the marked ones of the listed bindings, if it fits in 512 bytes; answers how many it took.
 pub fn write_shown(
     marks: &[bool],
     order: &mut [u16],
-    listed: usize,
     access: u16,
     chain: &[u16],
     derivation: &mut [u8],
-) -> Written
-    requires { (listed ≤ length order.old) × (listed ≤ most_bindings) × (length chain.now ≤ top) × (most_derivation ≤ length derivation.old) }
-    ensures { WritesDerivation (derivation_of marks.now order.old listed access chain.now) derivation.old derivation.new result }
+) -> Option<usize>
+    requires { (length order.old ≤ most_bindings) × (length chain.now ≤ top) × (most_derivation ≤ length derivation.old) }
+    ensures { WritesDerivation (derivation_of marks.now order.old access chain.now) derivation.old derivation.new result }
 {
-    let kept = keep_marked(marks, order, listed);
+    let kept = keep_marked(marks, order);
     write_kept(&order[..kept], access, chain, derivation)
 }
 
-// Writes the derivation with these bindings, if it fits in 512 bytes.
-fn write_kept(bindings: &[u16], access: u16, chain: &[u16], derivation: &mut [u8]) -> Written
+// Writes the derivation with these bindings, if it fits in 512 bytes; answers how many it took.
+fn write_kept(bindings: &[u16], access: u16, chain: &[u16], derivation: &mut [u8]) -> Option<usize>
     requires { (length bindings.now ≤ most_bindings) × (length chain.now ≤ top) × (most_derivation ≤ length derivation.old) }
     ensures { WritesDerivation (record { bindings = bindings.entry.now; access = access; delegations = chain.now }) derivation.old derivation.new result }
 {
@@ -71,8 +62,7 @@ fn write_kept(bindings: &[u16], access: u16, chain: &[u16], derivation: &mut [u8
     let listing = size_of(count) + size_of_all(bindings);
     let ending = size_of(records) + size_of(access) + size_of_all(chain);
     if MOST_DERIVATION < listing + ending {
-        return Written::Overrun;
+        return None;
     }
-    let wide = access as u32;
-    Written::Bytes(write_derivation(derivation, bindings, wide, chain))
+    Some(write_derivation(derivation, bindings, u32::from(access), chain))
 }

@@ -1,24 +1,17 @@
 -- Keeping the marked ones of a list: one more is looked at.
-use mathlib.Core.Path.{◌≡◌, refl, sym, ◌∙◌, ap, ap₂, subst}
+use mathlib.Core.Path.{◌≡◌, sym, ◌∙◌, ap, ap₂}
 use mathlib.Core.Bool.{Bool, true, false}
 use mathlib.Core.List.{List}
 use Prim.Native.Nat.{ℕ, ◌+◌, ◌<◌, ◌≤◌}
 use native.Mathlib.Omega.{arith}
 use native.Mathlib.Numerals.{add-one}
-use lib.ListN.{length, take, drop, set, get_or, length-set, get_or-eq_default}
+use lib.ListN.{length, take, drop, set, get_or, length-set}
 use lib.Seq.{take-suc, take-suc-set, drop-set-lt, drop-drop, get_or-drop}
 use Rattle.rules.specs.Choice.{pick}
 use Rattle.rules.specs.Lists.{◌▷◌, keep}
 use Rattle.rules.proofs.NeededLaws.{keep_snoc}
 use Rattle.marking.specs.Marks.{marked}
 use Rattle.marking.specs.Kept.{Kept, KeptOn}
-
--- Past the end nothing is marked.
-pub not_marked : (marks : List Bool) (i : ℕ) → length marks ≤ i → false ≡ marked marks i
-not_marked marks i h = sym (get_or-eq_default marks false h)
-
-pub kept_start : (marks : List Bool) (order : List ℕ) → Kept marks order 0 order 0
-kept_start marks order = record { size = refl; most = omega arith; same = refl; rest = refl }
 
 module _ (marks : List Bool) (i : ℕ) (order : List ℕ) (n : ℕ) (h : i < length order) (b : Bool) (e : b ≡ marked marks (get_or order i 0)) where
   module _ (before : List ℕ) (w : Kept marks before i order n) where
@@ -57,6 +50,3 @@ module _ (marks : List Bool) (i : ℕ) (order : List ℕ) (n : ℕ) (h : i < len
       rest = drop-set-lt (i + 1) order n (get_or order i 0) (omega arith) ∙ same_rest before w;
     };
   }
-
-pub kept_end : (marks : List Bool) (before order : List ℕ) (i listed n : ℕ) → i ≤ listed → listed ≤ i → Kept marks before i order n → Kept marks before listed order n
-kept_end marks before order i listed n a b w = let e : i ≡ listed = omega arith in subst (λ (j : ℕ). Kept marks before j order n) e w

@@ -2,12 +2,12 @@
 -- already is not wanted by what comes later.
 use mathlib.Core.Path.{◌≡◌, refl, sym, ◌∙◌, subst}
 use mathlib.Core.Logic.{◌⊎◌, inl, inr}
-use mathlib.Core.Bool.{Bool, true, false, false≢true}
+use mathlib.Core.Bool.{Bool, true}
 use mathlib.Core.List.{List, [], ◌∷◌}
-use Prim.Native.Nat.{ℕ, zero, suc, ◌-◌, ◌<◌, ◌≤◌}
+use Prim.Native.Nat.{ℕ, suc, ◌<◌, ◌≤◌}
 use native.Mathlib.Omega.{arith}
-use lib.ListN.{length, take, drop, get_or, drop_of_length-le}
-use lib.Seq.{drop-cons, get_or-take, length-take-le}
+use lib.ListN.{length, take, drop, get_or}
+use lib.Seq.{drop-cons}
 use Rattle.rules.specs.Lists.{At, In}
 use Rattle.rules.specs.Tables.{Target, Binding, NameTable}
 use Rattle.rules.specs.Names.{TargetThrough}
@@ -21,15 +21,11 @@ use Rattle.sheet.specs.Finds.{Index}
 use Rattle.sheet.proofs.MeaningLaws.{index_bindings}
 use Rattle.marking.specs.Marks.{marked, Adds}
 use Rattle.marking.specs.Needed.{Listed, Wanted, Needed}
-use Rattle.marking.proofs.MarksLaws.{adds_none, adds_as}
+use Rattle.marking.proofs.MarksLaws.{adds_as}
 use Rattle.marking.proofs.OrderLaws.{parts_apart, ordered_at}
 
 -- ---- one binding
 module _ (t : NameTable) (i : ℕ) (m : List Bool) where
-  -- It is not marked.
-  pub wants_none : (b : Bool) → b ≡ marked m i → b ≡ false → Adds (Wanted t m i) m m
-  wants_none b e f = adds_none m (λ j w. false≢true (sym f ∙ e ∙ w.wanting))
-
   -- It is marked, and so is now whatever its target goes through.
   pub wants_these : (b : Bool) → b ≡ marked m i → b ≡ true → i < length t.bindings → (g : Target) → ((x : Binding) → At t.bindings i x → g ≡ x.target) → (after : List Bool)
       → Adds (TargetThrough t g) m after → Adds (Wanted t m i) m after
@@ -48,17 +44,6 @@ pub record Passed (t : NameTable) (L : List ℕ) (before : List Bool) (n : ℕ) 
   pub size : length marks ≡ length before
   pub most : n ≤ length L
   pub needed : Needed t (drop n L) before marks
-
-module _ (t : NameTable) (L : List ℕ) (before : List Bool) where
-  pub passed_start : (n : ℕ) → n ≡ length L → Passed t L before n before
-  passed_start n e = record { size = refl; most = omega arith; needed = subst (λ (l : List ℕ). Needed t l before before) (sym (drop_of_length-le L {i = n} (omega arith))) none }
-    where
-      none : Needed t [] before before
-      none = record { kept = λ i h. h; closed = λ m x h. absurd h; why = λ j h. inl h }
-
-  pub passed_end : (n : ℕ) (marks : List Bool) → n ≤ 0 → Passed t L before n marks → Needed t L before marks
-  passed_end zero marks h p = p.needed
-  passed_end (suc n) marks h p = absurd (omega arith)
 
 module _ (t : NameTable) (good : GoodNames t) (sheet L : List ℕ) (f : Filling t sheet L) (n : ℕ) (h : n < length L) where
   its_meaning : MeansFrom t (take n L) (get_or L n 0)
@@ -106,30 +91,14 @@ module _ (t : NameTable) (good : GoodNames t) (sheet L : List ℕ) (f : Filling 
         why j (inr v) = inr (get_or L n 0, inl refl, later (get_or L n 0) j v)
 
 -- ---- the listed one before those that are passed
-module _ (t : NameTable) (good : GoodNames t) (sheet order : List ℕ) (listed : ℕ) (all : Listed t sheet order listed) where
-  module _ (before m : List Bool) (left : ℕ) (p : Passed t (take listed order) before left m) (some : 0 < left) where
-    within : left - 1 < length (take listed order)
-    within = omega (arith, p.most)
+module _ (t : NameTable) (good : GoodNames t) (sheet order : List ℕ) (all : Listed t sheet order) (n : ℕ) (there : n < length order) where
+  pub number_there : (keys names : List ℕ) → Index t keys names → get_or order n 0 < length names
+  number_there keys names index = omega (arith, listed_there t good sheet order all.filling n there, index_bindings t keys names index)
 
-    same_number : get_or (take listed order) (left - 1) 0 ≡ get_or order (left - 1) 0
-    same_number = get_or-take listed order (left - 1) 0 (omega (arith, p.most, length-take-le listed order all.room))
-
-    pub place_there : left - 1 < length order
-    place_there = omega (arith, p.most, length-take-le listed order all.room)
-
-    pub number_there : (keys names : List ℕ) → Index t keys names → get_or order (left - 1) 0 < length names
-    number_there keys names index =
-        let h : get_or order (left - 1) 0 < length t.bindings = rw (← same_number) (listed_there t good sheet (take listed order) all.filling (left - 1) within) in
-        omega (arith, index_bindings t keys names index)
-
-    pub passed_on : (after : List Bool) → length after ≡ length m → Adds (Wanted t m (get_or order (left - 1) 0)) m after → Passed t (take listed order) before (left - 1) after
-    passed_on after same w =
-        let L = take listed order in
-        let e : left ≡ suc (left - 1) = omega arith in
-        record {
-          size = same ∙ p.size;
-          most = omega (arith, p.most);
-          needed = subst (λ (l : List ℕ). Needed t l before after) (sym (drop-cons L (left - 1) 0 within))
-              (passed_more t good sheet L all.filling (left - 1) within before m after (subst (λ (n : ℕ). Needed t (drop n L) before m) e p.needed)
-              (subst (λ (i : ℕ). Adds (Wanted t m i) m after) (sym same_number) w));
-        }
+  pub passed_on : (before m after : List Bool) (left : ℕ) → left ≡ suc n → Passed t order before left m → length after ≡ length m → Adds (Wanted t m (get_or order n 0)) m after → Passed t order before n after
+  passed_on before m after left e p same w = record {
+    size = same ∙ p.size;
+    most = omega (arith, p.most);
+    needed = subst (λ (l : List ℕ). Needed t l before after) (sym (drop-cons order n 0 there))
+        (passed_more t good sheet order all.filling n there before m after (subst (λ (i : ℕ). Needed t (drop i order) before m) e p.needed) w);
+  }

@@ -7,7 +7,7 @@ use Prim.Native.Nat.{ℕ, ◌<◌}
 use native.Mathlib.Omega.{arith}
 use lib.ListN.{length, set, get_or}
 use Rattle.rules.specs.Tables.{Target, NameTable}
-use Rattle.rules.specs.Names.{IsSelf, Opens, Through, TargetThrough}
+use Rattle.rules.specs.Names.{IsSelf, Opens, Through}
 use Rattle.rules.specs.Sheets.{entry, Exact}
 use Rattle.rules.specs.Following.{InSheet, Leads, OpensAt, PathThrough}
 use Rattle.rules.specs.declared.Key.{Key}
@@ -15,17 +15,14 @@ use Rattle.rules.specs.declared.Space.{Space}
 use Rattle.rules.proofs.NamesLaws.{opens_one}
 use Rattle.rules.proofs.ThroughLaws.{through_by_sheet}
 use Rattle.records.specs.Paths.{path_of}
-use Rattle.records.specs.Targets.{target_of}
 use Rattle.records.specs.declared.paths.Path.{Path}
-use Rattle.records.specs.declared.targets.Target.{Target as TargetValue}
-use Rattle.records.specs.declared.targets.Target.TheVariants as as_target
 use Rattle.table.specs.Finding.{FindsSpace, keys_of, FindsNamed}
 use Rattle.table.specs.declared.finding.SpaceFound.{SpaceFound}
 use Rattle.table.specs.declared.finding.SpaceFound.TheVariants as space
 use Rattle.table.specs.declared.finding.BindingFound.{BindingFound}
 use Rattle.table.specs.declared.finding.BindingFound.TheVariants as binding
 use Rattle.sheet.specs.Finds.{Index, Fitting, rest_of}
-use Rattle.sheet.proofs.FindsLaws.{path_none, path_first, space_has, space_none, binding_opens, binding_none, own_key}
+use Rattle.sheet.proofs.FindsLaws.{path_first, space_has, binding_opens, binding_none, own_key}
 use Rattle.marking.specs.Marks.{Adds}
 use Rattle.marking.proofs.MarksLaws.{adds_none, adds_one, adds_then, adds_as}
 
@@ -33,9 +30,6 @@ use Rattle.marking.proofs.MarksLaws.{adds_none, adds_one, adds_then, adds_as}
 module _ (t : NameTable) (keys names sheet : List ℕ) (index : Index t keys names) (k : Key) (p : Path) (fits : Fitting p) (m : List Bool) where
   abbrev pub Marks : List Bool → Type 0
   Marks after = Adds (PathThrough t (InSheet t sheet) k (path_of p)) m after
-
-  pub no_name : p.length ≡ 0 → Marks m
-  no_name e = adds_none m (λ i w. subst (λ (q : List ℕ). PathThrough t (InSheet t sheet) k q i) (path_none p e) w)
 
   module _ (some : p.length ≡ 0 → ⊥) where
     -- The path, by its first name and the rest.
@@ -57,9 +51,6 @@ module _ (t : NameTable) (keys names sheet : List ℕ) (index : Index t keys nam
         go i (inr w) = none w.1.number (leads_open w.0 w.1)
 
     module _ (r : SpaceFound) (f : FindsSpace (keys_of keys) k r) where
-      pub no_space : r ≡ space.None → Marks m
-      no_space e = opens_none (λ i o. space_none f e o.space (subst (λ (l : List Key). IsSelf l o.space k) (sym index.spaces) o.is_self))
-
       module _ (S : Space) (e : r ≡ space.Space S) (q : BindingFound) (g : FindsNamed names S p.first q) where
         its_self : IsSelf t.spaces S k
         its_self = subst (λ (l : List Key). IsSelf l S k) index.spaces (space_has S f e)
@@ -129,9 +120,3 @@ name_marked t keys names sheet index exact S p h m after w =
     adds_as (λ i. let e = through_by_sheet t index.good sheet exact (own_key t keys names index S h) p i in (e.1, e.0)) w
 
 -- ---- a whole target
-pub key_marked : (t : NameTable) (g : TargetValue) (k : Key) → g ≡ as_target.Key k → (m : List Bool) → Adds (TargetThrough t (target_of g)) m m
-key_marked t g k e m = subst (λ (h : TargetValue). Adds (TargetThrough t (target_of h)) m m) (sym e) (adds_none m (λ i w. w))
-
-pub target_marked : (t : NameTable) (g : TargetValue) (S : Space) (p : Path) → g ≡ as_target.Name S p → (m after : List Bool)
-    → Adds (Through t S (path_of p)) m after → Adds (TargetThrough t (target_of g)) m after
-target_marked t g S p e m after w = subst (λ (h : TargetValue). Adds (TargetThrough t (target_of h)) m after) (sym e) w

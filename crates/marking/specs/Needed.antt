@@ -1,5 +1,5 @@
 -- What marked bindings need: whatever their targets go through.
-use Rattle.std.specs.Prelude.{◌≡◌, ◌⊎◌, Bool, true, List, ℕ, ◌≤◌, length, take}
+use Rattle.std.specs.Prelude.{◌≡◌, ◌⊎◌, Bool, true, List, ℕ}
 use Rattle.rules.specs.Lists.{At, In}
 use Rattle.rules.specs.Tables.{Binding, NameTable}
 use Rattle.rules.specs.Names.{TargetThrough}
@@ -7,11 +7,10 @@ use Rattle.rules.specs.Sheets.{Exact}
 use Rattle.rules.specs.Filling.{Filling}
 use Rattle.marking.specs.Marks.{marked}
 
--- The sheet is exact, and the first `listed` of the order list its filled entries.
-pub record Listed (t : NameTable) (sheet order : List ℕ) (listed : ℕ) : Type 0 where
+-- The sheet is exact, and the order lists its filled entries.
+pub record Listed (t : NameTable) (sheet order : List ℕ) : Type 0 where
   pub exact : Exact t sheet
-  pub filling : Filling t sheet (take listed order)
-  pub room : listed ≤ length order
+  pub filling : Filling t sheet order
 
 -- Binding number `i` is marked, and its target goes through number `j`.
 pub record Wanted (t : NameTable) (marks : List Bool) (i j : ℕ) : Type 0 where

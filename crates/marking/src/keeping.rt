@@ -7,10 +7,7 @@ ghost use Rattle.marking.specs.Kept.{Kept, KeptOn};
 pub fn is_marked(marks: &[bool], i: usize) -> bool
     ensures { result ≡ marked marks.now i }
 {
-    if marks.len() <= i {
-        return false;
-    }
-    marks[i]
+    marks.get(i).copied().unwrap_or(false)
 }
 
 // Puts number `i` of the list behind those that are kept already, if it is marked; answers how many are kept then.
@@ -19,23 +16,20 @@ fn keep_one(marks: &[bool], order: &mut [u16], i: usize, kept: usize) -> usize
     ensures { KeptOn marks.now i order.old kept order.new result }
 {
     let number = order[i];
-    if !is_marked(marks, number as usize) {
+    if !is_marked(marks, usize::from(number)) {
         return kept;
     }
     order[kept] = number;
     kept + 1
 }
 
-// Of the first `listed` of the list keeps those that are marked; answers how many they are.
-pub fn keep_marked(marks: &[bool], order: &mut [u16], listed: usize) -> usize
-    requires { listed ≤ length order.old }
-    ensures { Kept marks.now order.old listed order.new result }
+// Of the list keeps those that are marked, at its start; answers how many they are.
+pub fn keep_marked(marks: &[bool], order: &mut [u16]) -> usize
+    ensures { Kept marks.now order.old (length order.old) order.new result }
 {
     let mut kept = 0;
-    let mut i = 0;
-    while i < listed {
+    for i in 0..order.len() {
         kept = keep_one(marks, order, i, kept);
-        i = i + 1;
     }
     kept
 }

@@ -1,5 +1,5 @@
 // Marking what the marked bindings need: each listed binding's target goes through bindings listed before it, so one pass from the last to the first is enough.
-ghost use Rattle.std.specs.Prelude.{◌<◌, ◌≤◌, length, take};
+ghost use Rattle.std.specs.Prelude.{◌<◌, ◌≤◌, length};
 ghost use Rattle.rules.specs.Sheets.{Exact};
 ghost use Rattle.table.specs.ReadTable.{table_at};
 ghost use Rattle.sheet.specs.Listings.{Known};
@@ -26,16 +26,15 @@ fn mark_for(
     if !is_marked(marks, i) {
         return;
     }
-    let place = bindings[i] as usize;
-    let found = read_binding(&table[place..], keys.len(), &names[..0]);
-    let BindingRead::Binding(binding, _) = found else {
+    let place = usize::from(bindings[i]);
+    let BindingRead::Binding(binding, _) = read_binding(&table[place..], keys.len(), &names[..0])
+    else {
         return;
     };
-    let target = binding.target;
-    mark_target(keys, names, sheet, marks, target)
+    mark_target(keys, names, sheet, marks, binding.target);
 }
 
-// Marks whatever the marked ones among the first `listed` of the order need.
+// Marks whatever the marked ones among the listed bindings need.
 pub fn mark_needed(
     table: &[u8],
     keys: &[u32],
@@ -43,16 +42,20 @@ pub fn mark_needed(
     bindings: &[u16],
     sheet: &[u32],
     order: &[u16],
-    listed: usize,
     marks: &mut [bool],
 )
-    requires { Known (table_at table.now).names table.now keys.now names.now bindings.now × Listed (table_at table.now).names sheet.now order.now listed × (length names.now ≤ length sheet.now) × (length names.now ≤ length marks.old) }
-    ensures { Needed (table_at table.now).names (take listed order.now) marks.old marks.new }
+    requires { Known (table_at table.now).names table.now keys.now names.now bindings.now × Listed (table_at table.now).names sheet.now order.now × (length names.now ≤ length sheet.now) × (length names.now ≤ length marks.old) }
+    ensures { Needed (table_at table.now).names order.now marks.old marks.new }
 {
-    let mut left = listed;
-    while 0 < left {
-        left = left - 1;
-        let i = order[left] as usize;
-        mark_for(table, keys, names, bindings, sheet, marks, i);
+    for n in (0..order.len()).rev() {
+        mark_for(
+            table,
+            keys,
+            names,
+            bindings,
+            sheet,
+            marks,
+            usize::from(order[n]),
+        );
     }
 }

@@ -19,16 +19,13 @@ pub fn mark(keys: &[u32], names: &[u32], sheet: &[u32], marks: &mut [bool], from
     requires { (length keys.now ≤ most_spaces) × (length names.now ≤ length sheet.now) × (length names.now ≤ length marks.old) × Fitting path }
     ensures { InTables keys.now names.now (λ t. Adds (PathThrough t (InSheet t sheet.now) from (path_of path)) marks.old marks.new) }
 {
-    let first = path.first;
     if path.length == 0 {
         return;
     }
-    let home = find_space(keys, from);
-    let SpaceFound::Space(space) = home else {
+    let SpaceFound::Space(space) = find_space(keys, from) else {
         return;
     };
-    let opened = find_binding(names, space, first);
-    let BindingFound::Binding(i) = opened else {
+    let BindingFound::Binding(i) = find_binding(names, space, path.first) else {
         return;
     };
     marks[i] = true;
@@ -51,9 +48,7 @@ pub fn mark_name(
     requires { (length keys.now ≤ most_spaces) × (length names.now ≤ length sheet.now) × (length names.now ≤ length marks.old) × (space.0 < length keys.now) × Fitting path }
     ensures { InExact keys.now names.now sheet.now (λ t. Adds (Through t space (path_of path)) marks.old marks.new) }
 {
-    let number = space.0;
-    let key = keys[number];
-    mark(keys, names, sheet, marks, Key(key), path)
+    mark(keys, names, sheet, marks, Key(keys[space.0]), path)
 }
 
 // Marks the bindings that the target goes through; a key goes through none.
@@ -61,8 +56,7 @@ pub fn mark_target(keys: &[u32], names: &[u32], sheet: &[u32], marks: &mut [bool
     requires { (length keys.now ≤ most_spaces) × (length names.now ≤ length sheet.now) × (length names.now ≤ length marks.old) × FittingTarget (length keys.now) target }
     ensures { InExact keys.now names.now sheet.now (λ t. Adds (TargetThrough t (target_of target)) marks.old marks.new) }
 {
-    let Target::Name(space, path) = target else {
-        return;
-    };
-    mark_name(keys, names, sheet, marks, space, path)
+    if let Target::Name(space, path) = target {
+        mark_name(keys, names, sheet, marks, space, path);
+    }
 }

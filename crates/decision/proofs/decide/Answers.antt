@@ -9,9 +9,6 @@ use Rattle.decision.proofs.decide.Goals as goal
 pub slice_bounds-keys-end : goal.slice_bounds-keys-end
 slice_bounds-keys-end c = let h = few_spaces_read _ (record { small = λ i. (c.type_inv.table i).fits }) _ (read_table_lem _ _ _ c.load_index.ensures.read c.in-Good.is) in omega (arith, h, c.keys-2-1.given)
 
-pub slice_bounds-decide_good-end : goal.slice_bounds-decide_good-end
-slice_bounds-decide_good-end c = let h = few_spaces_read _ (record { small = λ i. (c.type_inv.table i).fits }) _ (read_table_lem _ _ _ c.load_index.ensures.read c.in-Good.is) in sym (length-take-le c.in-Good.sections.spaces.count c.load_index.new.keys (omega (arith, h, c.keys-2-1.given)))
-
 pub slice_bounds-names-end : goal.slice_bounds-names-end
 slice_bounds-names-end c = let h = few_bindings_read _ (record { small = λ i. (c.type_inv.table i).fits }) _ (read_table_lem _ _ _ c.load_index.ensures.read c.in-Good.is) in omega (arith, h, c.names-2-1.given)
 

@@ -1,13 +1,10 @@
 -- `draw_all` takes one delegation after the other.
-use Prim.Native.Nat.{◌-◌}
-use lib.ListN.{length}
+use Prim.Native.Nat.{◌≤◌}
+use lib.ListN.{take}
 use Rattle.table.specs.ReadTable.{table_at}
 use Rattle.matching.specs.Matching.{asked_of}
-use Rattle.decision.proofs.DrawingLaws.{Drawing}
+use Rattle.decision.specs.Gathering.{DrawnSo}
 use Rattle.decision.proofs.gathering.draw_all.Given as goal
 
 abbrev pub invariant-loop-j : goal.invariant-loop-j
-invariant-loop-j l = Drawing (table_at l.table) l.sheet (asked_of l.owner l.wanted) l.subject (length l.delegations) l.initial.edges l.edges l.m l.j
-
-abbrev pub decreases-loop-j : goal.decreases-loop-j
-decreases-loop-j l = length l.delegations - l.j
+invariant-loop-j l = DrawnSo (table_at l.table) l.sheet (asked_of l.owner l.wanted) l.subject l.j (take l.m l.edges) × (l.m ≤ l.j)

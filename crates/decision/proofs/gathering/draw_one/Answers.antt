@@ -1,27 +1,18 @@
 -- `draw_one` takes the delegation as an edge, if it is between two nodes.
 use native.Mathlib.Omega.{arith}
-use Rattle.matching.proofs.MatchingLaws.{few_spaces_lem, delegations_below}
+use Rattle.matching.proofs.MatchingLaws.{few_spaces_lem}
 use Rattle.decision.proofs.GatheringLaws.{node_here, node_fits}
 use Rattle.decision.proofs.DrawingLaws.{hands_no_edge, to_nobody, one_more_edge, writer_fits_node, edge_depth_fits, drawn_in}
 use Rattle.decision.proofs.gathering.draw_one.Goals as goal
 
-pub match_delegation-handed-requires : goal.match_delegation-handed-requires
-match_delegation-handed-requires c = (c.requires.0, c.requires.1, c.requires.2, delegations_below _ _ _ _ _ c.requires.0 _ c.requires.3)
-
 pub returns-in_default : goal.returns-in_default
 returns-in_default c = record { drawn = hands_no_edge _ c.requires.0.good.names _ _ _ _ _ _ _ _ c.requires.7 _ c.match_delegation-handed.ensures c.in_default.is; few = omega (arith, c.requires.6) }
 
-pub find_node-node-requires : goal.find_node-node-requires
-find_node-node-requires c = few_spaces_lem _ _ _ _ _ c.requires.0
-
-pub returns-in_default-node : goal.returns-in_default-node
-returns-in_default-node c = record { drawn = to_nobody _ c.requires.0.good.names _ _ _ _ _ _ _ _ c.requires.7 _ c.match_delegation-handed.ensures _ _ _ c.in-On.is _ (node_here _ _ _ _ _ c.requires.0 c.find_node-node.ensures) c.in_default-node.is; few = omega (arith, c.requires.6) }
+pub returns-in_default-find_node : goal.returns-in_default-find_node
+returns-in_default-find_node c = record { drawn = to_nobody _ c.requires.0.good.names _ _ _ _ _ _ _ _ c.requires.7 _ c.match_delegation-handed.ensures _ _ _ c.in-On.is _ (node_here _ _ _ _ _ c.requires.0 c.find_node.ensures) c.in_default-find_node.is; few = omega (arith, c.requires.6) }
 
 pub edge-requires : goal.edge-requires
-edge-requires c = ((omega (arith, few_spaces_lem _ _ _ _ _ c.requires.0, writer_fits_node _ _ _ _ _ c.requires.0 _ _ _ _ c.match_delegation-handed.ensures _ _ _ c.in-On.is)), (omega (arith, few_spaces_lem _ _ _ _ _ c.requires.0, node_fits _ _ _ _ _ c.requires.0 _ _ _ _ c.find_node-node.ensures c.in-Node.is)), omega (arith, c.number.ensures, edge_depth_fits _ _ _ _ _ c.requires.0 _ _ _ _ c.match_delegation-handed.ensures _ _ _ c.in-On.is), omega (arith, c.requires.3, c.requires.4))
-
-pub bounds-edges-m : goal.bounds-edges-m
-bounds-edges-m c = omega (arith, c.requires.3, c.requires.4, c.requires.5, c.requires.6)
+edge-requires c = ((omega (arith, few_spaces_lem _ _ _ _ _ c.requires.0, writer_fits_node _ _ _ _ _ c.requires.0 _ _ _ _ c.match_delegation-handed.ensures _ _ _ c.in-On.is)), (omega (arith, few_spaces_lem _ _ _ _ _ c.requires.0, node_fits _ _ _ _ _ c.requires.0 _ _ _ _ c.find_node.ensures c.in-Some.is)), omega (arith, c.number.ensures, edge_depth_fits _ _ _ _ _ c.requires.0 _ _ _ _ c.match_delegation-handed.ensures _ _ _ c.in-On.is), omega (arith, c.requires.3, c.requires.4))
 
 pub returns : goal.returns
-returns c = record { drawn = drawn_in _ _ _ _ c.args.j c.args.m c.args.edges.now _ _ _ _ _ c.number.ensures c.edge.ensures (omega (arith, few_spaces_lem _ _ _ _ _ c.requires.0, writer_fits_node _ _ _ _ _ c.requires.0 _ _ _ _ c.match_delegation-handed.ensures _ _ _ c.in-On.is)) (omega (arith, few_spaces_lem _ _ _ _ _ c.requires.0, node_fits _ _ _ _ _ c.requires.0 _ _ _ _ c.find_node-node.ensures c.in-Node.is)) (omega (arith, edge_depth_fits _ _ _ _ _ c.requires.0 _ _ _ _ c.match_delegation-handed.ensures _ _ _ c.in-On.is)) (omega (arith, c.requires.3, c.requires.4, c.requires.5, c.requires.6)) (one_more_edge _ c.requires.0.good.names _ _ _ _ _ _ _ _ c.requires.7 _ c.match_delegation-handed.ensures _ _ _ c.in-On.is _ (node_here _ _ _ _ _ c.requires.0 c.find_node-node.ensures) _ c.in-Node.is); few = omega (arith, c.requires.6) }
+returns c = record { drawn = drawn_in _ _ _ _ c.args.j c.args.m c.args.edges.now _ _ _ _ _ c.number.ensures c.edge.ensures (omega (arith, few_spaces_lem _ _ _ _ _ c.requires.0, writer_fits_node _ _ _ _ _ c.requires.0 _ _ _ _ c.match_delegation-handed.ensures _ _ _ c.in-On.is)) (omega (arith, few_spaces_lem _ _ _ _ _ c.requires.0, node_fits _ _ _ _ _ c.requires.0 _ _ _ _ c.find_node.ensures c.in-Some.is)) (omega (arith, edge_depth_fits _ _ _ _ _ c.requires.0 _ _ _ _ c.match_delegation-handed.ensures _ _ _ c.in-On.is)) (omega (arith, c.requires.3, c.requires.4, c.requires.5, c.requires.6)) (one_more_edge _ c.requires.0.good.names _ _ _ _ _ _ _ _ c.requires.7 _ c.match_delegation-handed.ensures _ _ _ c.in-On.is _ (node_here _ _ _ _ _ c.requires.0 c.find_node.ensures) _ c.in-Some.is); few = omega (arith, c.requires.6) }

@@ -1,14 +1,8 @@
 -- `give_all` takes one access record after the other.
-use mathlib.Core.Path.{◌≡◌}
-use Prim.Native.Nat.{◌-◌, ◌≤◌}
-use lib.ListN.{length}
 use Rattle.table.specs.ReadTable.{table_at}
 use Rattle.matching.specs.Matching.{asked_of}
 use Rattle.decision.specs.Gathering.{GivenSo}
 use Rattle.decision.proofs.gathering.give_all.Given as goal
 
 abbrev pub invariant-loop-i : goal.invariant-loop-i
-invariant-loop-i l = GivenSo (table_at l.table) l.sheet (asked_of l.owner l.wanted) l.subject l.i l.best l.roots × (length l.best ≡ length l.initial.best) × (length l.roots ≡ length l.initial.roots) × (l.i ≤ length l.accesses)
-
-abbrev pub decreases-loop-i : goal.decreases-loop-i
-decreases-loop-i l = length l.accesses - l.i
+invariant-loop-i l = GivenSo (table_at l.table) l.sheet (asked_of l.owner l.wanted) l.subject l.i l.best l.roots

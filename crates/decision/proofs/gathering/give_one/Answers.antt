@@ -1,41 +1,29 @@
 -- `give_one` takes what the access record gives, if a node gets more by it.
 use native.Mathlib.Omega.{arith}
-use Rattle.matching.proofs.MatchingLaws.{few_spaces_lem, accesses_below}
+use Rattle.matching.proofs.MatchingLaws.{few_spaces_lem}
 use Rattle.decision.proofs.GatheringLaws.{gives_none_more, given_nobody, has_enough, raised, node_here, node_fits, depth_fits}
 use Rattle.decision.proofs.gathering.give_one.Goals as goal
-
-pub match_access-given-requires : goal.match_access-given-requires
-match_access-given-requires c = (c.requires.0, c.requires.1, accesses_below _ _ _ _ _ c.requires.0 _ c.requires.2)
 
 pub returns-in_default : goal.returns-in_default
 returns-in_default c = gives_none_more _ c.requires.0.good.names _ _ _ _ _ _ c.requires.6 _ c.match_access-given.ensures c.in_default.is
 
-pub find_node-node-requires : goal.find_node-node-requires
-find_node-node-requires c = few_spaces_lem _ _ _ _ _ c.requires.0
-
-pub returns-in_default-node : goal.returns-in_default-node
-returns-in_default-node c = given_nobody _ c.requires.0.good.names _ _ _ _ _ _ c.requires.6 _ c.match_access-given.ensures _ _ c.in-To.is _ (node_here _ _ _ _ _ c.requires.0 c.find_node-node.ensures) c.in_default-node.is
-
-pub overflow_cast-code : goal.overflow_cast-code
-overflow_cast-code c = omega (arith, c.number.ensures, depth_fits _ _ _ _ _ c.requires.0 _ _ _ _ _ _ c.match_access-given.ensures c.in-To.is)
-
-pub overflow_add-code : goal.overflow_add-code
-overflow_add-code c = omega (arith, c.number.ensures, depth_fits _ _ _ _ _ c.requires.0 _ _ _ _ _ _ c.match_access-given.ensures c.in-To.is)
+pub returns-in_default-find_node : goal.returns-in_default-find_node
+returns-in_default-find_node c = given_nobody _ c.requires.0.good.names _ _ _ _ _ _ c.requires.6 _ c.match_access-given.ensures _ _ c.in-To.is _ (node_here _ _ _ _ _ c.requires.0 c.find_node.ensures) c.in_default-find_node.is
 
 pub bounds-best-v : goal.bounds-best-v
-bounds-best-v c = omega (arith, node_fits _ _ _ _ _ c.requires.0 _ _ _ _ c.find_node-node.ensures c.in-Node.is, c.requires.4)
+bounds-best-v c = omega (arith, node_fits _ _ _ _ _ c.requires.0 _ _ _ _ c.find_node.ensures c.in-Some.is, c.requires.4)
 
 pub returns-then-code-best : goal.returns-then-code-best
-returns-then-code-best c = has_enough _ c.requires.0.good.names _ _ _ _ _ _ c.requires.6 _ c.match_access-given.ensures _ _ c.in-To.is _ (node_here _ _ _ _ _ c.requires.0 c.find_node-node.ensures) _ c.in-Node.is (omega (arith, c.number.ensures, c.if-code-best.true))
+returns-then-code-best c = has_enough _ c.requires.0.good.names _ _ _ _ _ _ c.requires.6 _ c.match_access-given.ensures _ _ c.in-To.is _ (node_here _ _ _ _ _ c.requires.0 c.find_node.ensures) _ c.in-Some.is (omega (arith, c.number.ensures, c.if-code-best.true))
 
 pub bounds-best-v-2 : goal.bounds-best-v-2
-bounds-best-v-2 c = omega (arith, node_fits _ _ _ _ _ c.requires.0 _ _ _ _ c.find_node-node.ensures c.in-Node.is, c.requires.4)
+bounds-best-v-2 c = omega (arith, node_fits _ _ _ _ _ c.requires.0 _ _ _ _ c.find_node.ensures c.in-Some.is, c.requires.4)
 
 pub offset_bounds-roots-v : goal.offset_bounds-roots-v
-offset_bounds-roots-v c = omega (arith, few_spaces_lem _ _ _ _ _ c.requires.0, node_fits _ _ _ _ _ c.requires.0 _ _ _ _ c.find_node-node.ensures c.in-Node.is)
+offset_bounds-roots-v c = omega (arith, few_spaces_lem _ _ _ _ _ c.requires.0, node_fits _ _ _ _ _ c.requires.0 _ _ _ _ c.find_node.ensures c.in-Some.is)
 
 pub bounds-roots-v : goal.bounds-roots-v
-bounds-roots-v c = omega (arith, node_fits _ _ _ _ _ c.requires.0 _ _ _ _ c.find_node-node.ensures c.in-Node.is, c.requires.5)
+bounds-roots-v c = omega (arith, node_fits _ _ _ _ _ c.requires.0 _ _ _ _ c.find_node.ensures c.in-Some.is, c.requires.5)
 
 pub returns : goal.returns
-returns c = raised _ c.requires.0.good.names _ _ _ _ _ _ c.requires.6 _ c.match_access-given.ensures _ _ c.in-To.is _ (node_here _ _ _ _ _ c.requires.0 c.find_node-node.ensures) _ c.in-Node.is _ c.number.ensures c.if-code-best.false (depth_fits _ _ _ _ _ c.requires.0 _ _ _ _ _ _ c.match_access-given.ensures c.in-To.is) (omega (arith, node_fits _ _ _ _ _ c.requires.0 _ _ _ _ c.find_node-node.ensures c.in-Node.is, c.requires.4)) (omega (arith, node_fits _ _ _ _ _ c.requires.0 _ _ _ _ c.find_node-node.ensures c.in-Node.is, c.requires.5))
+returns c = raised _ c.requires.0.good.names _ _ _ _ _ _ c.requires.6 _ c.match_access-given.ensures _ _ c.in-To.is _ (node_here _ _ _ _ _ c.requires.0 c.find_node.ensures) _ c.in-Some.is _ c.number.ensures c.if-code-best.false (depth_fits _ _ _ _ _ c.requires.0 _ _ _ _ _ _ c.match_access-given.ensures c.in-To.is) (omega (arith, node_fits _ _ _ _ _ c.requires.0 _ _ _ _ c.find_node.ensures c.in-Some.is, c.requires.4)) (omega (arith, node_fits _ _ _ _ _ c.requires.0 _ _ _ _ c.find_node.ensures c.in-Some.is, c.requires.5))

@@ -1,6 +1,6 @@
 -- `write_kept` adds up the bytes, and writes them if they fit.
 use native.Mathlib.Omega.{arith}
-use Rattle.decision.proofs.WritingLaws.{listing_fits, ending_fits, size_fits, too_long, it_fits, wrote_it}
+use Rattle.decision.proofs.WritingLaws.{listing_fits, ending_fits, size_fits, too_long, wrote_it}
 use Rattle.decision.proofs.writing.write_kept.Goals as goal
 
 pub overflow_add-listing : goal.overflow_add-listing
@@ -18,8 +18,5 @@ overflow_add-listing-2 c = omega (arith, size_fits c.args.bindings.now c.args.ch
 pub returns-then-listing-ending-gt-MOST_DERIVATION : goal.returns-then-listing-ending-gt-MOST_DERIVATION
 returns-then-listing-ending-gt-MOST_DERIVATION c = too_long c.args.bindings.now c.args.chain.now c.args.access c.requires.0 c.requires.1 _ _ _ _ _ c.size_of.ensures c.size_of_all.ensures c.size_of-2.ensures c.size_of-3.ensures c.size_of_all-2.ensures _ c.if-listing-ending-gt-MOST_DERIVATION.true
 
-pub write_derivation-requires : goal.write_derivation-requires
-write_derivation-requires c = (c.requires.0, c.requires.1, it_fits c.args.bindings.now c.args.chain.now c.args.access c.requires.0 c.requires.1 _ _ _ _ _ c.size_of.ensures c.size_of_all.ensures c.size_of-2.ensures c.size_of-3.ensures c.size_of_all-2.ensures c.args.derivation.now c.requires.2 c.if-listing-ending-gt-MOST_DERIVATION.false)
-
 pub returns : goal.returns
-returns c = wrote_it c.args.bindings.now c.args.chain.now c.args.access c.requires.0 c.requires.1 _ _ _ _ _ c.size_of.ensures c.size_of_all.ensures c.size_of-2.ensures c.size_of-3.ensures c.size_of_all-2.ensures _ _ _ c.if-listing-ending-gt-MOST_DERIVATION.false c.write_derivation.ensures
+returns c = wrote_it c.args.bindings.now c.args.chain.now c.args.access c.requires.0 c.requires.1 _ _ _ _ _ c.size_of.ensures c.size_of_all.ensures c.size_of-2.ensures c.size_of-3.ensures c.size_of_all-2.ensures _ _ _ c.if-listing-ending-gt-MOST_DERIVATION.false (rw c.from.ensures at c.write_derivation.ensures)

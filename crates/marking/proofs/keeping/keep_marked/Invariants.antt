@@ -1,10 +1,6 @@
 -- `keep_marked` looks at one listed number after the other.
-use Prim.Native.Nat.{◌-◌, ◌≤◌}
 use Rattle.marking.specs.Kept.{Kept}
 use Rattle.marking.proofs.keeping.keep_marked.Given as goal
 
 abbrev pub invariant-loop-i : goal.invariant-loop-i
-invariant-loop-i l = Kept l.marks l.initial.order l.i l.order l.kept × (l.i ≤ l.listed)
-
-abbrev pub decreases-loop-i : goal.decreases-loop-i
-decreases-loop-i l = l.listed - l.i
+invariant-loop-i l = Kept l.marks l.initial.order l.i l.order l.kept

@@ -1,27 +1,14 @@
 -- `mark_for` reads the binding where it stands, if it is marked, and marks what its target goes through.
-use native.Mathlib.Omega.{arith}
-use Rattle.sheet.proofs.MeaningLaws.{place_within, no_fault, target_fitting, target_read_lem}
+use Rattle.sheet.proofs.MeaningLaws.{no_fault, target_fitting, target_read_lem}
 use Rattle.sheet.proofs.FillingLaws.{entry_below}
-use Rattle.marking.proofs.NeededLaws.{wants_none, wants_these}
+use Rattle.marking.proofs.NeededLaws.{wants_these}
 use Rattle.marking.proofs.needed.mark_for.Goals as goal
 
-pub returns-then-not-is_marked : goal.returns-then-not-is_marked
-returns-then-not-is_marked c = wants_none _ _ _ _ c.is_marked.ensures c.if-not-is_marked.true
-
-pub overflow_cast-place : goal.overflow_cast-place
-overflow_cast-place c = omega (arith, place_within _ _ _ _ _ c.requires.0 _ c.requires.4, c.type_inv.table 0)
-
-pub slice_bounds-read_binding-count : goal.slice_bounds-read_binding-count
-slice_bounds-read_binding-count c = place_within _ _ _ _ _ c.requires.0 _ c.requires.4
-
-pub slice_bounds-read_binding-start : goal.slice_bounds-read_binding-start
-slice_bounds-read_binding-start c = place_within _ _ _ _ _ c.requires.0 _ c.requires.4
-
 pub returns-in_default : goal.returns-in_default
-returns-in_default c = absurd (no_fault _ _ _ _ _ c.requires.0 _ c.requires.4 _ c.read_binding-found.ensures _ c.in_default.is)
+returns-in_default c = absurd (no_fault _ _ _ _ _ c.requires.0 _ c.requires.4 _ (rw c.from-place.ensures at c.read_binding.ensures) _ c.in_default.is)
 
 pub mark_target-requires : goal.mark_target-requires
-mark_target-requires c = (c.requires.0.few_spaces, c.requires.2, c.requires.3, target_fitting _ _ _ _ _ c.requires.0 _ c.requires.4 _ c.read_binding-found.ensures _ _ c.in-Binding.is)
+mark_target-requires c = (c.requires.0.few_spaces, c.requires.2, c.requires.3, target_fitting _ _ _ _ _ c.requires.0 _ c.requires.4 _ (rw c.from-place.ensures at c.read_binding.ensures) _ _ c.in-Binding.is)
 
 pub returns : goal.returns
-returns c = wants_these _ _ _ _ c.is_marked.ensures c.if-not-is_marked.false (entry_below _ _ _ _ _ c.requires.0 _ c.requires.4) _ (target_read_lem _ _ _ _ _ c.requires.0 _ c.requires.4 _ c.read_binding-found.ensures _ _ c.in-Binding.is) _ (c.mark_target.ensures _ c.requires.0.index c.requires.1)
+returns c = wants_these _ _ _ _ c.is_marked.ensures c.if-not-is_marked.false (entry_below _ _ _ _ _ c.requires.0 _ c.requires.4) _ (target_read_lem _ _ _ _ _ c.requires.0 _ c.requires.4 _ (rw c.from-place.ensures at c.read_binding.ensures) _ _ c.in-Binding.is) _ (c.mark_target.ensures _ c.requires.0.index c.requires.1)
