@@ -6,6 +6,7 @@ use mathlib.Core.List.{List, ◌∷◌}
 use Prim.Native.Nat.{ℕ, ◌<◌}
 use native.Mathlib.Omega.{arith}
 use lib.ListN.{length, set, get_or}
+use Rattle.std.specs.Prelude.{Option, Some, None}
 use Rattle.rules.specs.Tables.{Target, NameTable}
 use Rattle.rules.specs.Names.{IsSelf, Opens, Through}
 use Rattle.rules.specs.Sheets.{entry, Exact}
@@ -17,10 +18,6 @@ use Rattle.rules.proofs.ThroughLaws.{through_by_sheet}
 use Rattle.records.specs.Paths.{path_of}
 use Rattle.records.specs.declared.paths.Path.{Path}
 use Rattle.table.specs.Finding.{FindsSpace, keys_of, FindsNamed}
-use Rattle.table.specs.declared.finding.SpaceFound.{SpaceFound}
-use Rattle.table.specs.declared.finding.SpaceFound.TheVariants as space
-use Rattle.table.specs.declared.finding.BindingFound.{BindingFound}
-use Rattle.table.specs.declared.finding.BindingFound.TheVariants as binding
 use Rattle.sheet.specs.Finds.{Index, Fitting, rest_of}
 use Rattle.sheet.proofs.FindsLaws.{path_first, space_has, binding_opens, binding_none, own_key}
 use Rattle.marking.specs.Marks.{Adds}
@@ -50,18 +47,18 @@ module _ (t : NameTable) (keys names sheet : List ℕ) (index : Index t keys nam
         go i (inl o) = none i o
         go i (inr w) = none w.1.number (leads_open w.0 w.1)
 
-    module _ (r : SpaceFound) (f : FindsSpace (keys_of keys) k r) where
-      module _ (S : Space) (e : r ≡ space.Space S) (q : BindingFound) (g : FindsNamed names S p.first q) where
+    module _ (r : Option Space) (f : FindsSpace (keys_of keys) k r) where
+      module _ (S : Space) (e : r ≡ Some S) (q : Option ℕ) (g : FindsNamed names S p.first q) where
         its_self : IsSelf t.spaces S k
         its_self = subst (λ (l : List Key). IsSelf l S k) index.spaces (space_has S f e)
 
         its_opens : (i : ℕ) (o : OpensAt t k p.first i) → Opens t.bindings S p.first i o.target
         its_opens i o = subst (λ (T : Space). Opens t.bindings T p.first i o.target) (index.good.keys_apart o.space S k o.is_self its_self) o.opens
 
-        pub no_binding : q ≡ binding.None → Marks m
+        pub no_binding : q ≡ None → Marks m
         no_binding n = opens_none (λ i o. binding_none (g t.bindings index.bindings) n i o.target (its_opens i o))
 
-        module _ (i : ℕ) (n : q ≡ binding.Binding i) (there : i < length m) where
+        module _ (i : ℕ) (n : q ≡ Some i) (there : i < length m) where
           opened : (x : Target) × Opens t.bindings S p.first i x
           opened = binding_opens i (g t.bindings index.bindings) n
 

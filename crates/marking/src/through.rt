@@ -1,6 +1,5 @@
 // Marking the bindings that a path, a name or a target goes through, where a sheet tells what each binding gives.
 ghost use Rattle.std.specs.Prelude.{◌<◌, ◌≤◌, length};
-ghost use Rattle.rules.specs.Ranges.{most_spaces};
 ghost use Rattle.rules.specs.Names.{Through, TargetThrough};
 ghost use Rattle.rules.specs.Following.{InSheet, PathThrough};
 ghost use Rattle.records.specs.Paths.{path_of};
@@ -12,20 +11,21 @@ use records::paths::Path;
 use records::targets::Target;
 use rules::{Key, Space};
 use sheet::following::rest_of;
-use table::finding::{BindingFound, SpaceFound, find_binding, find_space};
+use sheet::names::Names;
+use table::finding::{find_binding, find_space};
 
 // Marks the bindings that the path goes through from the key.
-pub fn mark(keys: &[u32], names: &[u32], sheet: &[u32], marks: &mut [bool], from: Key, path: Path)
-    requires { (length keys.now ≤ most_spaces) × (length names.now ≤ length sheet.now) × (length names.now ≤ length marks.old) × Fitting path }
-    ensures { InTables keys.now names.now (λ t. Adds (PathThrough t (InSheet t sheet.now) from (path_of path)) marks.old marks.new) }
+pub fn mark(names: &Names<'_>, sheet: &[u32], marks: &mut [bool], from: Key, path: Path)
+    requires { (length names.now.packed.now ≤ length sheet.now) × (length names.now.packed.now ≤ length marks.old) × Fitting path }
+    ensures { InTables names.now.keys.now names.now.packed.now (λ t. Adds (PathThrough t (InSheet t sheet.now) from (path_of path)) marks.old marks.new) }
 {
     if path.length == 0 {
         return;
     }
-    let SpaceFound::Space(space) = find_space(keys, from) else {
+    let Some(space) = find_space(names.keys, from) else {
         return;
     };
-    let BindingFound::Binding(i) = find_binding(names, space, path.first) else {
+    let Some(i) = find_binding(names.packed, space, path.first) else {
         return;
     };
     marks[i] = true;
@@ -33,30 +33,23 @@ pub fn mark(keys: &[u32], names: &[u32], sheet: &[u32], marks: &mut [bool], from
     if key == 0 {
         return;
     }
-    mark(keys, names, sheet, marks, Key(key), rest_of(path))
+    mark(names, sheet, marks, Key(key), rest_of(path))
 }
 
 // Marks the bindings that the name goes through.
-pub fn mark_name(
-    keys: &[u32],
-    names: &[u32],
-    sheet: &[u32],
-    marks: &mut [bool],
-    space: Space,
-    path: Path,
-)
-    requires { (length keys.now ≤ most_spaces) × (length names.now ≤ length sheet.now) × (length names.now ≤ length marks.old) × (space.0 < length keys.now) × Fitting path }
-    ensures { InExact keys.now names.now sheet.now (λ t. Adds (Through t space (path_of path)) marks.old marks.new) }
+pub fn mark_name(names: &Names<'_>, sheet: &[u32], marks: &mut [bool], space: Space, path: Path)
+    requires { (length names.now.packed.now ≤ length sheet.now) × (length names.now.packed.now ≤ length marks.old) × (space.0 < length names.now.keys.now) × Fitting path }
+    ensures { InExact names.now.keys.now names.now.packed.now sheet.now (λ t. Adds (Through t space (path_of path)) marks.old marks.new) }
 {
-    mark(keys, names, sheet, marks, Key(keys[space.0]), path)
+    mark(names, sheet, marks, Key(names.keys[space.0]), path)
 }
 
 // Marks the bindings that the target goes through; a key goes through none.
-pub fn mark_target(keys: &[u32], names: &[u32], sheet: &[u32], marks: &mut [bool], target: Target)
-    requires { (length keys.now ≤ most_spaces) × (length names.now ≤ length sheet.now) × (length names.now ≤ length marks.old) × FittingTarget (length keys.now) target }
-    ensures { InExact keys.now names.now sheet.now (λ t. Adds (TargetThrough t (target_of target)) marks.old marks.new) }
+pub fn mark_target(names: &Names<'_>, sheet: &[u32], marks: &mut [bool], target: Target)
+    requires { (length names.now.packed.now ≤ length sheet.now) × (length names.now.packed.now ≤ length marks.old) × FittingTarget (length names.now.keys.now) target }
+    ensures { InExact names.now.keys.now names.now.packed.now sheet.now (λ t. Adds (TargetThrough t (target_of target)) marks.old marks.new) }
 {
     if let Target::Name(space, path) = target {
-        mark_name(keys, names, sheet, marks, space, path);
+        mark_name(names, sheet, marks, space, path);
     }
 }
