@@ -1,6 +1,6 @@
 -- The step of codes, as code takes it.
 use mathlib.Core.Path.{◌≡◌, refl}
-use Prim.Native.Nat.{ℕ, zero, suc, ◌+◌, ◌-◌, ◌<◌, ◌≤◌, zero-le}
+use Prim.Native.Nat.{ℕ, zero, suc, ◌+◌, ◌-◌, ◌<◌, ◌≤◌, zero-le, min}
 use native.Mathlib.Omega.{arith}
 use Rattle.rules.specs.Depths.{step_code}
 
@@ -9,15 +9,10 @@ step_none zero d h = refl
 step_none (suc zero) d h = refl
 step_none (suc (suc c)) d h = absurd (omega arith)
 
-pub step_by_depth : (c d : ℕ) → 2 ≤ c → d < c - 2 → d + 1 ≡ step_code c d
-step_by_depth zero d h l = absurd (omega arith)
-step_by_depth (suc zero) d h l = absurd (omega arith)
-step_by_depth (suc (suc c)) d h l = omega arith
-
-pub step_by_code : (c d : ℕ) → 2 ≤ c → c - 2 ≤ d → (c - 2) + 1 ≡ step_code c d
-step_by_code zero d h l = absurd (omega arith)
-step_by_code (suc zero) d h l = absurd (omega arith)
-step_by_code (suc (suc c)) d h l = omega arith
+pub step_on : (c d m : ℕ) → 2 ≤ c → m ≡ min d (c - 2) → m + 1 ≡ step_code c d
+step_on zero d m h e = absurd (omega arith)
+step_on (suc zero) d m h e = absurd (omega arith)
+step_on (suc (suc c)) d m h e = omega arith
 
 -- A step never leads up, and from access it leads down.
 pub step_below : (c d : ℕ) → step_code c d ≤ c

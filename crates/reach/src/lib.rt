@@ -20,11 +20,7 @@ fn step_code(code: u8, depth: u8) -> u8
     if code < 2 {
         return 0;
     }
-    let less = code - 2;
-    if depth < less {
-        return depth + 1;
-    }
-    less + 1
+    depth.min(code - 2) + 1
 }
 
 // Follows one edge; answers whether anything rose so far.
@@ -50,10 +46,8 @@ fn round(edges: &[u32], best: &mut [u8], by: &mut [u16]) -> bool
     ensures { Round (froms edges.now) (tos edges.now) (depths_of edges.now) best.old by.old (length (froms edges.now)) best.new by.new result }
 {
     let mut rose = false;
-    let mut e = 0;
-    while e < edges.len() {
+    for e in 0..edges.len() {
         rose = follow_edge(edges, best, by, e, rose);
-        e = e + 1;
     }
     rose
 }
@@ -94,7 +88,7 @@ pub fn trace(
     let mut first = chain.len();
     while best[v] != start[v] {
         let e = by[v] as usize;
-        first = first - 1;
+        first -= 1;
         let edge = edges[e];
         chain[first] = number_of(edge);
         v = from_of(edge);

@@ -1,12 +1,7 @@
 -- `round` follows the edges one after the other.
-use Prim.Native.Nat.{◌-◌, ◌≤◌}
-use lib.ListN.{length}
 use Rattle.reach.specs.Edges.{froms, tos, depths_of}
 use Rattle.reach.specs.Rounds.{Round}
 use Rattle.reach.proofs.round.Given as goal
 
 abbrev pub invariant-loop-e : goal.invariant-loop-e
-invariant-loop-e l = Round (froms l.edges) (tos l.edges) (depths_of l.edges) l.initial.best l.initial.by l.e l.best l.by l.rose × (l.e ≤ length l.edges)
-
-abbrev pub decreases-loop-e : goal.decreases-loop-e
-decreases-loop-e l = length l.edges - l.e
+invariant-loop-e l = Round (froms l.edges) (tos l.edges) (depths_of l.edges) l.initial.best l.initial.by l.e l.best l.by l.rose

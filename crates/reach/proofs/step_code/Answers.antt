@@ -1,12 +1,9 @@
 -- `step_code` takes the step by cases of the code and of what is smaller.
-use Rattle.reach.proofs.StepLaws.{step_none, step_by_depth, step_by_code}
+use Rattle.reach.proofs.StepLaws.{step_none, step_on}
 use Rattle.reach.proofs.step_code.Goals as goal
 
 pub returns-then-code-lt2 : goal.returns-then-code-lt2
 returns-then-code-lt2 c = step_none _ _ c.if-code-lt2.true
 
-pub returns-then-depth-less : goal.returns-then-depth-less
-returns-then-depth-less c = step_by_depth _ _ c.if-code-lt2.false c.if-depth-less.true
-
 pub returns : goal.returns
-returns c = step_by_code _ _ c.if-code-lt2.false c.if-depth-less.false
+returns c = step_on _ _ _ c.if-code-lt2.false c.min.ensures

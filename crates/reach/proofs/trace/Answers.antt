@@ -30,17 +30,8 @@ offset_bounds-edges-e c = omega (arith, number_in _ _ _ _ _ _ c.requires.0 c.req
 pub bounds-edges-e : goal.bounds-edges-e
 bounds-edges-e c = edge_in _ _ _ _ _ _ c.requires.0 c.requires.1 _ _ _ c.loop-v.invariant c.loop-v-test.true
 
-pub number_of-requires : goal.number_of-requires
-number_of-requires c = tt
-
-pub offset_bounds-chain-first : goal.offset_bounds-chain-first
-offset_bounds-chain-first c = omega (arith, c.loop-v.invariant.low)
-
 pub bounds-chain-first : goal.bounds-chain-first
 bounds-chain-first c = omega (arith, c.loop-v.invariant.low, c.loop-v.invariant.size, room_there _ _ _ _ _ _ _ _ _ c.requires.0 c.requires.1 _ _ _ c.loop-v.invariant c.loop-v-test.true)
-
-pub from_of-v-requires : goal.from_of-v-requires
-from_of-v-requires c = tt
 
 pub loop-v-smaller : goal.loop-v-smaller
 loop-v-smaller c = omega (arith, room_there _ _ _ _ _ _ _ _ _ c.requires.0 c.requires.1 _ _ _ c.loop-v.invariant c.loop-v-test.true)
