@@ -8,6 +8,7 @@ use sheet::names::Names;
 use table::load_index;
 
 // Room for what is kept of the largest table: the keys of its spaces, the names that its bindings bind, packed, and where its records stand.
+#[derive(Drop)]
 pub struct Rows {
     keys: [u32; 64],
     packed: [u32; 256],
