@@ -26,8 +26,6 @@ use Rattle.records.specs.DerivationBytes.{derivation_bytes, most_derivation, Goo
 use Rattle.records.proofs.DerivationForm.{derivation_reads}
 use Rattle.sheet.specs.Finds.{Finds}
 use Rattle.sheet.specs.Listings.{Filled}
-use Rattle.sheet.specs.declared.following.Followed.{Followed}
-use Rattle.sheet.specs.declared.following.Followed.TheVariants as followed
 use Rattle.sheet.proofs.FindsLaws.{finds_key, finds_none}
 use Rattle.matching.specs.Matching.{told}
 use Rattle.marking.specs.Marks.{marked}
@@ -100,11 +98,11 @@ module _ (t : Table) (good : Good t) (sheet₀ sheet order : List ℕ) (n : ℕ)
     ready : (s : List ℕ) → read_request (length t.names.spaces) s ≡ some request → Ready t s sheet₀ derivation₀ request sheet
     ready s e = record { accepted = e; room_for_sheet = room_of_sheet; room_for_derivation = room; filled = record { size = size; exact = filled.exact; past = filled.past } }
 
-    module _ (meant : Followed) (finds : Finds (TargetLeads t.names (InSheet t.names sheet) subject) meant) where
-      pub no_name : meant ≡ followed.Nothing → DecidesAs t subject q sheet₀ derivation₀ decided.Unnamed sheet derivation₀
+    module _ (meant : Option Key) (finds : Finds (TargetLeads t.names (InSheet t.names sheet) subject) meant) where
+      pub no_name : meant ≡ None → DecidesAs t subject q sheet₀ derivation₀ decided.Unnamed sheet derivation₀
       no_name e s read = promise.unnamed (ready s read) (λ k m. finds_none finds e k ((exact_leads t.names good.names sheet filled.exact subject k).1 m))
 
-      module _ (key : Key) (e : meant ≡ followed.Key key) (chain : List ℕ) where
+      module _ (key : Key) (e : meant ≡ Some key) (chain : List ℕ) where
         means : TargetMeans t.names subject key
         means = (exact_leads t.names good.names sheet filled.exact subject key).0 (finds_key finds e)
 

@@ -23,9 +23,9 @@ use Rattle.rules.proofs.AccessLaws.{table_fixed}
 use Rattle.table.specs.ReadTable.{table_at}
 use Rattle.sheet.proofs.FindsLaws.{leads_one}
 use Rattle.sheet.proofs.MeaningLaws.{index_spaces}
-use Rattle.matching.specs.Matching.{told, HandsOn, Hands, Held}
+use Rattle.matching.specs.Matching.{told, HandsOn, Hands}
+use Rattle.matching.specs.Held.{Held}
 use Rattle.matching.specs.declared.Handed.{Handed}
-use Rattle.matching.specs.declared.Handed.TheVariants as the_handed
 use Rattle.matching.proofs.MatchingLaws.{hands_on, hands_none}
 use Rattle.reach.specs.Edges.{edge_of, froms, tos, depths_of, numbers_of}
 use Rattle.reach.specs.Graphs.{WroteTo, Edge, Drawn}
@@ -107,14 +107,23 @@ module _ (t : Table) (good : GoodNames t.names) (sheet : List ℕ) (q : Asked Sp
           let s = so.all i c x y p r (omega arith) z f g in
           (s.0, omega (arith, s.1, long), entry_first from u s.0 s.1 ∙ s.2, entry_first to v s.0 (omega (arith, s.1, so.same_to)) ∙ s.3, entry_first depths d s.0 (omega (arith, s.1, so.same_depths)) ∙ s.4)
 
-  module _ (r : Handed) (found-so : Hands (HandsOn t sheet q j) r) where
+  module _ (r : Option Handed) (found-so : Hands (HandsOn t sheet q j) r) where
     as_handed : {k m : Key} {d : ℕ} (w : WroteTo Y j k m d) → HandsOn t sheet q j w.name.space m d
     as_handed {k} w = record { path = w.name.path; writer = k; writes = w.wrote; leads = w.means }
 
-    pub hands_no_edge : r ≡ the_handed.Nothing → RowsSo t sheet q subject (j + 1) from to depths numbers
+    pub hands_no_edge : r ≡ None → RowsSo t sheet q subject (j + 1) from to depths numbers
     hands_no_edge e = no_edge (λ d u v k m w a b. hands_none found-so e w.name.space m d (as_handed w))
 
-    module _ (S : Space) (m : Key) (d : Depth) (e : r ≡ the_handed.On S m d) where
+    module _ (it : Handed) (e : r ≡ Some it) where
+      abbrev S : Space
+      S = it.writer
+
+      abbrev m : Key
+      m = it.to
+
+      abbrev d : Depth
+      d = it.depth
+
       hands : HandsOn t sheet q j S m d.0
       hands = hands_on found-so e
 
@@ -158,11 +167,11 @@ drawn_in t sheet q subject j m edges u v d c x e is a b k h w =
     row = rw (add-one m) (take-suc-set edges m x h ∙ ap (λ (y : ℕ). take m edges ▷ y) packed)
 
 -- ---- numbers that fit
-module _ (s keys names accesses delegations : List ℕ) (held : Held s keys names accesses delegations) (sheet : List ℕ) (q : Asked Space) (j : ℕ) (r : Handed) (g : Hands (HandsOn (table_at s) sheet q j) r) (S : Space) (m : Key) (d : Depth) (e : r ≡ the_handed.On S m d) where
-  pub writer_fits_node : S.0 < length keys
+module _ (s keys names accesses delegations : List ℕ) (held : Held s keys names accesses delegations) (sheet : List ℕ) (q : Asked Space) (j : ℕ) (r : Option Handed) (g : Hands (HandsOn (table_at s) sheet q j) r) (it : Handed) (e : r ≡ Some it) where
+  pub writer_fits_node : it.writer.0 < length keys
   writer_fits_node = omega (arith, (hands_on g e).writes.is_self.at.there, index_spaces (table_at s).names keys names held.index)
 
-  pub edge_depth_fits : d.0 ≤ top
+  pub edge_depth_fits : it.depth.0 ≤ top
   edge_depth_fits = (held.good.delegations j _ (hands_on g e).writes.at).depth
 
 -- ---- the loop

@@ -20,13 +20,11 @@ use Rattle.rules.proofs.NamesLaws.{self_one}
 use Rattle.rules.proofs.AccessLaws.{table_fixed}
 use Rattle.table.specs.ReadTable.{table_at}
 use Rattle.table.specs.Finding.{FindsSpace, keys_of}
-use Rattle.table.specs.declared.finding.SpaceFound.{SpaceFound}
-use Rattle.table.specs.declared.finding.SpaceFound.TheVariants as as_space
 use Rattle.sheet.proofs.FindsLaws.{space_has, space_none, leads_one}
 use Rattle.sheet.proofs.MeaningLaws.{index_spaces}
-use Rattle.matching.specs.Matching.{told, GivesTo, Gives, Held}
+use Rattle.matching.specs.Matching.{told, GivesTo, Gives}
+use Rattle.matching.specs.Held.{Held}
 use Rattle.matching.specs.declared.Given.{Given as GivenAnswer}
-use Rattle.matching.specs.declared.Given.TheVariants as as_given
 use Rattle.matching.proofs.MatchingLaws.{gives_to, gives_none}
 use Rattle.reach.specs.Graphs.{RootTo}
 use Rattle.decision.specs.Gathering.{IsNode, space, stranger, FindsNode, node, GivenSo}
@@ -60,17 +58,17 @@ module _ (spaces : List Key) (subject : Key) where
   not_node (space {S = S} s) f g = f S s
   not_node (stranger h) f g = g refl
 
-module _ (keys : List ℕ) (subject k : Key) (r : SpaceFound) (f : FindsSpace (keys_of keys) k r) where
-  pub node_space : (S : Space) → r ≡ as_space.Space S → FindsNode (keys_of keys) subject k (Some S.0)
+module _ (keys : List ℕ) (subject k : Key) (r : Option Space) (f : FindsSpace (keys_of keys) k r) where
+  pub node_space : (S : Space) → r ≡ Some S → FindsNode (keys_of keys) subject k (Some S.0)
   node_space S e = node (space (space_has S f e))
 
-  pub node_stranger : r ≡ as_space.None → k.0 ≡ subject.0 → FindsNode (keys_of keys) subject k (Some (length keys))
+  pub node_stranger : r ≡ None → k.0 ≡ subject.0 → FindsNode (keys_of keys) subject k (Some (length keys))
   node_stranger e h =
       let q : subject ≡ k = λ i. record { 0 = sym h i } in
       subst (λ (n : ℕ). FindsNode (keys_of keys) subject k (Some n)) (length-map {B = Key} keys (λ (n : ℕ). record { 0 = n }))
       (node (subst (λ (m : Key). IsNode (keys_of keys) subject (length (keys_of keys)) m) q (stranger (λ S s. space_none f e S (subst (λ (m : Key). IsSelf (keys_of keys) S m) q s)))))
 
-  pub node_nobody : r ≡ as_space.None → (k.0 ≡ subject.0 → ⊥) → FindsNode (keys_of keys) subject k None
+  pub node_nobody : r ≡ None → (k.0 ≡ subject.0 → ⊥) → FindsNode (keys_of keys) subject k None
   node_nobody e h = no_node (λ v n. not_node (keys_of keys) subject n (space_none f e) h)
 
 pub finds_node : {spaces : List Key} {subject k : Key} {r : Option ℕ} (v : ℕ) → FindsNode spaces subject k r → r ≡ Some v → IsNode spaces subject v k
@@ -103,11 +101,17 @@ module _ (t : Table) (good : GoodNames t.names) (sheet : List ℕ) (q : Asked Sp
       let w = (table_fixed (told t sheet) t q).root i _ _ x.name y.name x.root y.root in
       (leads_one t.names good sheet y.name.space y.name.path k m (subst (λ (n : Name). told t sheet n.space n.path k) w.0 x.means) y.means, w.1)
 
-  module _ (r : GivenAnswer) (found-so : Gives (GivesTo t sheet q i) r) where
-    pub gives_none_more : r ≡ as_given.Nothing → GivenSo t sheet q subject (i + 1) best roots
+  module _ (r : Option GivenAnswer) (found-so : Gives (GivesTo t sheet q i) r) where
+    pub gives_none_more : r ≡ None → GivenSo t sheet q subject (i + 1) best roots
     gives_none_more e = enough (λ d v k x n. absurd (gives_none found-so e k d (record { name = x.name; lists = x.root; leads = x.means })))
 
-    module _ (k : Key) (d : Depth) (e : r ≡ as_given.To k d) where
+    module _ (it : GivenAnswer) (e : r ≡ Some it) where
+      abbrev k : Key
+      k = it.to
+
+      abbrev d : Depth
+      d = it.depth
+
       root : RootTo Y i k d.0
       root = let w = gives_to found-so e in record { name = w.name; root = w.lists; means = w.leads }
 
@@ -168,8 +172,8 @@ module _ (s keys names accesses delegations : List ℕ) (held : Held s keys name
   node_fits subject k a v f e =
       omega (arith, node_below (table_at s).names.spaces subject (finds_node v (node_here f) e), index_spaces (table_at s).names keys names held.index)
 
-  pub depth_fits : (sheet : List ℕ) (q : Asked Space) (i : ℕ) (r : GivenAnswer) (k : Key) (d : Depth) → Gives (GivesTo (table_at s) sheet q i) r → r ≡ as_given.To k d → d.0 ≤ top
-  depth_fits sheet q i r k d g e = (held.good.accesses i _ (gives_to g e).lists.at).depth
+  pub depth_fits : (sheet : List ℕ) (q : Asked Space) (i : ℕ) (r : Option GivenAnswer) (it : GivenAnswer) → Gives (GivesTo (table_at s) sheet q i) r → r ≡ Some it → it.depth.0 ≤ top
+  depth_fits sheet q i r it g e = (held.good.accesses i _ (gives_to g e).lists.at).depth
 
 pub given_all : (t : Table) (sheet : List ℕ) (q : Asked Space) (subject : Key) (i n : ℕ) (best roots : List ℕ) → n ≤ i → i ≤ n → GivenSo t sheet q subject i best roots → GivenSo t sheet q subject n best roots
 given_all t sheet q subject i n best roots h l w = let e : i ≡ n = omega arith in subst (λ (x : ℕ). GivenSo t sheet q subject x best roots) e w

@@ -21,7 +21,8 @@ use Rattle.rules.proofs.DepthsLaws.{fits}
 use Rattle.table.specs.ReadTable.{table_at}
 use Rattle.table.specs.Finding.{keys_of}
 use Rattle.sheet.proofs.MeaningLaws.{index_spaces}
-use Rattle.matching.specs.Matching.{told, Held}
+use Rattle.matching.specs.Matching.{told}
+use Rattle.matching.specs.Held.{Held}
 use Rattle.reach.specs.Edges.{froms, tos, depths_of, numbers_of}
 use Rattle.reach.specs.Reached.{Edges, Lent, Reached}
 use Rattle.reach.specs.Graphs.{Graph, Traced}

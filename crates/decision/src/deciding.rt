@@ -6,9 +6,8 @@ ghost use Rattle.records.specs.DerivationBytes.{most_derivation};
 ghost use Rattle.records.specs.Targets.{target_of};
 ghost use Rattle.table.specs.ReadTable.{table_at};
 ghost use Rattle.sheet.specs.Finds.{FittingTarget};
-ghost use Rattle.sheet.specs.Listings.{Known};
 ghost use Rattle.marking.specs.Needed.{Listed};
-ghost use Rattle.matching.specs.Matching.{Held, asked_of};
+ghost use Rattle.matching.specs.Matching.{asked_of};
 ghost use Rattle.decision.specs.Showing.{AllWritten};
 ghost use Rattle.decision.specs.Promise.{sheet_size, DecidesGood};
 ghost use Rattle.decision.specs.Deciding.{Shows, DecidesAs};
@@ -17,23 +16,16 @@ use crate::Decided;
 use crate::finding::find_chain;
 use crate::showing::mark_all;
 use crate::writing::{MOST_DERIVATION, write_shown};
-use records::fields::Use;
-use records::requests::{RequestRead, read_request};
+use matching::Asked;
+use matching::good::Good;
+use records::requests::read_request;
 use records::targets::Target;
-use rules::Space;
-use sheet::filling::fill;
-use sheet::following::{Followed, follow_target};
 
 pub const SHEET_SIZE: usize = 256;
 
 // Marks what the chain and the subject need of the listed bindings, and writes the derivation.
 fn show(
-    table: &[u8],
-    keys: &[u32],
-    names: &[u32],
-    bindings: &[u16],
-    accesses: &[u16],
-    delegations: &[u16],
+    good: &Good<'_>,
     sheet: &[u32],
     order: &mut [u16],
     subject: Target,
@@ -41,76 +33,39 @@ fn show(
     chain: &[u16],
     derivation: &mut [u8],
 ) -> Option<usize>
-    requires { Known (table_at table.now).names table.now keys.now names.now bindings.now × Held table.now keys.now names.now accesses.now delegations.now
-        × Listed (table_at table.now).names sheet.now order.old × (length order.old ≤ most_bindings) × (length names.now ≤ length sheet.now) × FittingTarget (length keys.now) subject
-        × (access < length (table_at table.now).accesses) × AllWritten (table_at table.now) chain.now × (length chain.now ≤ top) × (most_derivation ≤ length derivation.old) }
-    ensures { Shows (table_at table.now) (target_of subject) access chain.now order.old derivation.old derivation.new result }
+    requires { Listed (table_at good.now.names.table.now).names sheet.now order.old × (length order.old ≤ most_bindings) × (length good.now.names.packed.now ≤ length sheet.now)
+        × FittingTarget (length good.now.names.keys.now) subject × (access < length (table_at good.now.names.table.now).accesses) × AllWritten (table_at good.now.names.table.now) chain.now
+        × (length chain.now ≤ top) × (most_derivation ≤ length derivation.old) }
+    ensures { Shows (table_at good.now.names.table.now) (target_of subject) access chain.now order.old derivation.old derivation.new result }
 {
     let mut marks = [false; 256];
-    mark_all(
-        table,
-        keys,
-        names,
-        bindings,
-        accesses,
-        delegations,
-        sheet,
-        order,
-        subject,
-        access,
-        chain,
-        &mut marks,
-    );
+    mark_all(good, sheet, order, subject, access, chain, &mut marks);
     write_shown(&marks, order, access as u16, chain, derivation)
 }
 
 // Decides where there is room: the sheet is filled, the subject's key found, what it has settled, and the derivation written.
 fn decide_roomy(
-    table: &[u8],
-    keys: &[u32],
-    names: &[u32],
-    bindings: &[u16],
-    accesses: &[u16],
-    delegations: &[u16],
+    good: &Good<'_>,
     subject: Target,
-    owner: Space,
-    wanted: Use,
+    asked: Asked,
     sheet: &mut [u32],
     derivation: &mut [u8],
 ) -> Decided
-    requires { Known (table_at table.now).names table.now keys.now names.now bindings.now × Held table.now keys.now names.now accesses.now delegations.now
-        × FittingTarget (length keys.now) subject × (owner.0 < length keys.now) × (sheet_size ≤ length sheet.old) × (most_derivation ≤ length derivation.old) }
-    ensures { DecidesAs (table_at table.now) (target_of subject) (asked_of owner wanted) sheet.old derivation.old result sheet.new derivation.new }
+    requires { FittingTarget (length good.now.names.keys.now) subject × (asked.owner.0 < length good.now.names.keys.now) × (sheet_size ≤ length sheet.old) × (most_derivation ≤ length derivation.old) }
+    ensures { DecidesAs (table_at good.now.names.table.now) (target_of subject) (asked_of asked.owner asked.wanted) sheet.old derivation.old result sheet.new derivation.new }
 {
     let mut order = [0; 256];
     let mut edges = [0; 512];
-    let listed = fill(table, keys, names, bindings, sheet, &mut order, &mut edges);
-    let Followed::Key(key) = follow_target(keys, names, sheet, subject) else {
+    let listed = good.names.fill(sheet, &mut order, &mut edges);
+    let Some(key) = good.names.follow_target(sheet, subject) else {
         return Decided::Unnamed;
     };
     let mut chain = [0; 15];
-    let Some(settled) = find_chain(
-        table,
-        keys,
-        names,
-        accesses,
-        delegations,
-        sheet,
-        owner,
-        wanted,
-        key,
-        &mut edges,
-        &mut chain,
-    ) else {
+    let Some(settled) = find_chain(good, sheet, asked, key, &mut edges, &mut chain) else {
         return Decided::Denied;
     };
     let written = show(
-        table,
-        keys,
-        names,
-        bindings,
-        accesses,
-        delegations,
+        good,
         sheet,
         &mut order[..listed],
         subject,
@@ -126,20 +81,14 @@ fn decide_roomy(
 
 // The answer over a table that was found good.
 pub fn decide_good(
-    table: &[u8],
-    keys: &[u32],
-    names: &[u32],
-    bindings: &[u16],
-    accesses: &[u16],
-    delegations: &[u16],
+    good: &Good<'_>,
     request: &[u8],
     sheet: &mut [u32],
     derivation: &mut [u8],
 ) -> Decided
-    requires { Known (table_at table.now).names table.now keys.now names.now bindings.now × Held table.now keys.now names.now accesses.now delegations.now }
-    ensures { DecidesGood (table_at table.now) request.now sheet.old derivation.old result sheet.new derivation.new }
+    ensures { DecidesGood (table_at good.now.names.table.now) request.now sheet.old derivation.old result sheet.new derivation.new }
 {
-    let RequestRead::Request(wish) = read_request(request, keys.len()) else {
+    let Some(wish) = read_request(request, good.names.keys.len()) else {
         return Decided::BadRequest;
     };
     if sheet.len() < SHEET_SIZE {
@@ -148,17 +97,9 @@ pub fn decide_good(
     if derivation.len() < MOST_DERIVATION {
         return Decided::Room;
     }
-    decide_roomy(
-        table,
-        keys,
-        names,
-        bindings,
-        accesses,
-        delegations,
-        wish.subject,
-        wish.owner,
-        wish.wanted,
-        sheet,
-        derivation,
-    )
+    let asked = Asked {
+        owner: wish.owner,
+        wanted: wish.wanted,
+    };
+    decide_roomy(good, wish.subject, asked, sheet, derivation)
 }

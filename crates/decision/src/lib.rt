@@ -4,9 +4,9 @@
 ghost use Rattle.decision.specs.Promise.{Decides};
 
 use crate::deciding::decide_good;
+use matching::opening::Rows;
 use records::faults::Fault;
 use rules::Depth;
-use table::{Loaded, load_index};
 
 pub mod deciding;
 pub mod finding;
@@ -31,32 +31,9 @@ pub enum Decided {
 pub fn decide(table: &[u8], request: &[u8], sheet: &mut [u32], derivation: &mut [u8]) -> Decided
     ensures { Decides table.now request.now sheet.old derivation.old result sheet.new derivation.new }
 {
-    let mut keys = [0; 64];
-    let mut names = [0; 256];
-    let mut bindings = [0; 256];
-    let mut accesses = [0; 256];
-    let mut delegations = [0; 512];
-    match load_index(
-        table,
-        &mut keys,
-        &mut names,
-        &mut bindings,
-        &mut accesses,
-        &mut delegations,
-    ) {
-        Loaded::Good(sections) => {
-            decide_good(
-                table,
-                &keys[..sections.spaces.count],
-                &names[..sections.bindings.count],
-                &bindings,
-                &accesses[..sections.accesses.count],
-                &delegations[..sections.delegations.count],
-                request,
-                sheet,
-                derivation,
-            )
-        }
-        Loaded::Bad(fault) => Decided::BadTable(fault),
+    let mut rows = Rows::new();
+    match rows.open(table) {
+        Ok(good) => decide_good(&good, request, sheet, derivation),
+        Err(fault) => Decided::BadTable(fault),
     }
 }

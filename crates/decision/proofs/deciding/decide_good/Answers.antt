@@ -5,16 +5,16 @@ use Rattle.decision.proofs.AnswersLaws.{bad_request_lem, wish_fits, no_room, dec
 use Rattle.decision.proofs.deciding.decide_good.Goals as goal
 
 pub returns-in_default : goal.returns-in_default
-returns-in_default c = bad_request_lem _ _ _ _ _ c.requires.1 _ _ c.read_request.ensures _ _ c.in_default.is
+returns-in_default c = bad_request_lem _ _ _ _ _ c.args.good.now.held _ _ _ c.in_default.ensures
 
 pub returns-then-sheet-lt-SHEET_SIZE : goal.returns-then-sheet-lt-SHEET_SIZE
-returns-then-sheet-lt-SHEET_SIZE c = no_room _ _ _ _ _ c.requires.1 _ _ c.read_request.ensures _ _ (record { small = λ i. (c.type_inv.request i).fits }) _ c.in-Request.is (inl c.if-sheet-lt-SHEET_SIZE.true)
+returns-then-sheet-lt-SHEET_SIZE c = no_room _ _ _ _ _ c.args.good.now.held _ _ _ (record { small = λ i. omega (arith, c.type_inv.request i) }) _ c.in-Some.ensures (inl c.if-sheet-lt-SHEET_SIZE.true)
 
 pub returns-then-derivation-lt-MOST_DERIVATION : goal.returns-then-derivation-lt-MOST_DERIVATION
-returns-then-derivation-lt-MOST_DERIVATION c = no_room _ _ _ _ _ c.requires.1 _ _ c.read_request.ensures _ _ (record { small = λ i. (c.type_inv.request i).fits }) _ c.in-Request.is (inr c.if-derivation-lt-MOST_DERIVATION.true)
+returns-then-derivation-lt-MOST_DERIVATION c = no_room _ _ _ _ _ c.args.good.now.held _ _ _ (record { small = λ i. omega (arith, c.type_inv.request i) }) _ c.in-Some.ensures (inr c.if-derivation-lt-MOST_DERIVATION.true)
 
 pub decide_roomy-requires : goal.decide_roomy-requires
-decide_roomy-requires c = let w = wish_fits _ _ _ _ _ c.requires.1 _ _ c.read_request.ensures c.args.sheet.now c.args.derivation.now (record { small = λ i. (c.type_inv.request i).fits }) _ c.in-Request.is in (c.requires.0, c.requires.1, w.0, w.1, omega (arith, c.if-sheet-lt-SHEET_SIZE.false), omega (arith, c.if-derivation-lt-MOST_DERIVATION.false))
+decide_roomy-requires c = let w = wish_fits _ _ _ _ _ c.args.good.now.held _ c.args.sheet.now c.args.derivation.now (record { small = λ i. omega (arith, c.type_inv.request i) }) _ c.in-Some.ensures in (w.0, w.1, omega (arith, c.if-sheet-lt-SHEET_SIZE.false), omega (arith, c.if-derivation-lt-MOST_DERIVATION.false))
 
 pub returns : goal.returns
-returns c = decided_so _ _ _ _ _ c.requires.1 _ _ c.read_request.ensures _ _ (record { small = λ i. (c.type_inv.request i).fits }) _ c.in-Request.is _ _ _ c.decide_roomy.ensures
+returns c = decided_so _ _ _ _ _ c.args.good.now.held _ _ _ (record { small = λ i. omega (arith, c.type_inv.request i) }) _ c.in-Some.ensures _ _ _ c.decide_roomy.ensures

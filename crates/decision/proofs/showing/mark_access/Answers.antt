@@ -1,13 +1,13 @@
--- `mark_access` reads the record where it stands, and marks what its path goes through.
-use Rattle.matching.proofs.MatchingLaws.{access_never, access_value_lem, access_fits, few_spaces_lem}
+-- `mark_access` marks what the path of the record goes through.
+use native.Mathlib.Omega.{arith}
 use Rattle.decision.proofs.ShowingLaws.{access_marked}
 use Rattle.decision.proofs.showing.mark_access.Goals as goal
 
-pub returns-in_default : goal.returns-in_default
-returns-in_default c = absurd (access_never _ _ _ _ _ c.requires.0 _ c.requires.4 _ (rw c.from-place.ensures at c.read_access.ensures) _ c.in_default.is)
+pub access-access-requires : goal.access-access-requires
+access-access-requires c = omega (arith, c.args.good.now.held.access_count, c.requires.3)
 
 pub mark_name-requires : goal.mark_name-requires
-mark_name-requires c = let w = access_fits _ _ _ _ _ c.requires.0 _ c.requires.4 _ (rw c.from-place.ensures at c.read_access.ensures) _ _ c.in-Access.is in (few_spaces_lem _ _ _ _ _ c.requires.0, c.requires.2, c.requires.3, w.0, w.1)
+mark_name-requires c = (c.requires.1, c.requires.2, c.access-access.ensures.owner, c.access-access.ensures.path)
 
 pub returns : goal.returns
-returns c = let w = access_value_lem _ _ _ _ _ c.requires.0 _ c.requires.4 _ (rw c.from-place.ensures at c.read_access.ensures) _ _ c.in-Access.is in access_marked _ c.requires.0.good _ _ w.0 w.1 w.2 (c.mark_name.ensures _ c.requires.0.index c.requires.1)
+returns c = access_marked _ c.args.good.now.held.good _ _ _ c.access-access.ensures.at c.access-access.ensures.is (c.mark_name.ensures _ c.args.good.now.held.index c.requires.0)

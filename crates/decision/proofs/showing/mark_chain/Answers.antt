@@ -3,4 +3,4 @@ use Rattle.decision.proofs.ShowingLaws.{marking_on}
 use Rattle.decision.proofs.showing.mark_chain.Goals as goal
 
 pub loop-j-preserved : goal.loop-j-preserved
-loop-j-preserved c = marking_on _ _ _ _ _ _ c.loop-j.invariant c.loop-j-test.true c.mark_delegation.auto.marks (rw c.from.ensures at c.mark_delegation.ensures)
+loop-j-preserved c = marking_on _ _ _ _ _ _ c.loop-j.invariant c.loop-j-test.true c.mark_delegation.auto.marks c.mark_delegation.ensures

@@ -1,17 +1,16 @@
--- `mark_delegation` reads the record where it stands, and marks what its paths go through.
+-- `mark_delegation` marks what the paths of the record go through.
 use native.Mathlib.Omega.{arith}
-use Rattle.matching.proofs.MatchingLaws.{delegation_never, delegation_value_lem, owner_fits, delegatee_fits, few_spaces_lem}
 use Rattle.decision.proofs.ShowingLaws.{delegation_marked}
 use Rattle.decision.proofs.showing.mark_delegation.Goals as goal
 
-pub returns-in_default : goal.returns-in_default
-returns-in_default c = absurd (delegation_never _ _ _ _ _ c.requires.0 _ c.requires.4 _ (rw c.from-place.ensures at c.read_delegation.ensures) _ c.in_default.is)
+pub delegation-delegation-requires : goal.delegation-delegation-requires
+delegation-delegation-requires c = omega (arith, c.args.good.now.held.delegation_count, c.requires.3)
 
 pub mark_name-requires : goal.mark_name-requires
-mark_name-requires c = let w = owner_fits _ _ _ _ _ c.requires.0 _ c.requires.4 _ (rw c.from-place.ensures at c.read_delegation.ensures) _ _ c.in-Delegation.is in (few_spaces_lem _ _ _ _ _ c.requires.0, c.requires.2, c.requires.3, w.0, w.1)
+mark_name-requires c = (c.requires.1, c.requires.2, c.delegation-delegation.ensures.writer, c.delegation-delegation.ensures.owner)
 
 pub mark_name-requires-2 : goal.mark_name-requires-2
-mark_name-requires-2 c = let w = delegatee_fits _ _ _ _ _ c.requires.0 _ c.requires.4 _ (rw c.from-place.ensures at c.read_delegation.ensures) _ _ c.in-Delegation.is in (few_spaces_lem _ _ _ _ _ c.requires.0, c.requires.2, omega (arith, c.mark_name.auto.marks, c.requires.3), w.0, w.1)
+mark_name-requires-2 c = (c.requires.1, omega (arith, c.mark_name.auto.marks, c.requires.2), c.delegation-delegation.ensures.writer, c.delegation-delegation.ensures.delegatee)
 
 pub returns : goal.returns
-returns c = let w = delegation_value_lem _ _ _ _ _ c.requires.0 _ c.requires.4 _ (rw c.from-place.ensures at c.read_delegation.ensures) _ _ c.in-Delegation.is in delegation_marked _ c.requires.0.good _ _ w.0 w.1 w.2 (c.mark_name.ensures _ c.requires.0.index c.requires.1) (c.mark_name-2.ensures _ c.requires.0.index c.requires.1)
+returns c = delegation_marked _ c.args.good.now.held.good _ _ _ c.delegation-delegation.ensures.at c.delegation-delegation.ensures.is (c.mark_name.ensures _ c.args.good.now.held.index c.requires.0) (c.mark_name-2.ensures _ c.args.good.now.held.index c.requires.0)
