@@ -2,7 +2,7 @@
 use mathlib.Core.Path.{◌≡◌, sym, ◌∙◌, ap, subst}
 use mathlib.Core.Logic.{◌↔◌}
 use mathlib.Core.List.{List}
-use mathlib.Core.Option.{none, some}
+use Rattle.std.specs.Prelude.{Some, None}
 use Prim.Native.Nat.{ℕ, ◌<◌}
 use native.Mathlib.Omega.{arith}
 use lib.ListN.{length, get_or}
@@ -16,6 +16,7 @@ use Rattle.rules.specs.declared.Space.{Space}
 use Rattle.rules.proofs.ListsLaws.{at_one}
 use Rattle.rules.proofs.SheetsLaws.{exact_leads}
 use Rattle.records.specs.Parsed.{Parsed, got, Reader}
+use Rattle.records.specs.KeyRecords.{key_access_of, key_delegation_of}
 use Rattle.records.specs.Paths.{path_of, path_value}
 use Rattle.records.specs.Accesses.{access_record, access_read, access_value}
 use Rattle.records.specs.Delegations.{delegation_record, delegation_read, delegation_value}
@@ -39,7 +40,8 @@ use Rattle.sheet.specs.declared.following.Followed.TheVariants as followed
 use Rattle.sheet.proofs.FindsLaws.{own_key, finds_key, finds_none}
 use Rattle.sheet.proofs.MeaningLaws.{path_back, index_spaces}
 use Rattle.matching.proofs.MatchingLaws.{stands_back}
-use Rattle.translation.specs.Becoming.{AccessBecomes, DelegationBecomes, Keyed, becomes, Ready}
+use Rattle.translation.specs.Kinds.{access_kind, delegation_kind}
+use Rattle.translation.specs.Becoming.{BecomesKeyed, Keyed, becomes, Ready}
 use Rattle.translation.specs.Becoming.{nothing as becomes_nothing}
 
 -- ---- a record by its number
@@ -76,7 +78,7 @@ module _ (s keys names accesses delegations sheet : List ℕ) (ready : Ready s k
     listed : (x : AccessRecord) × At (table_at s).accesses i x × (n : ℕ) × (r ≡ as_access.Access (access_value x) n)
     listed = again (access_record (length keys)) (access_walks (length keys)) access_read s accesses (table_at s).accesses ready.held.accesses i h r found
 
-    pub access_sound : (f : Fault) → r ≡ as_access.Fault f → Keyed (AccessBecomes s i) none
+    pub access_sound : (f : Fault) → r ≡ as_access.Fault f → Keyed (BecomesKeyed access_kind s i) key_access_of None
     access_sound f e = let z : as_access.Access (access_value listed.0) listed.2 ≡ as_access.Fault f = sym listed.3 ∙ e in let y : ◌≡◌ {A = ℕ} 0 1 = cc z in absurd (omega arith)
 
     module _ (v : Access) (n : ℕ) (e : r ≡ as_access.Access v n) (a : Followed) (end : Finds (Leads v.owner (path_of v.path)) a) where
@@ -88,12 +90,12 @@ module _ (s keys names accesses delegations sheet : List ℕ) (ready : Ready s k
           meant listed.0.owner v.owner listed.0.path v.path a (ready.held.good.accesses i listed.0 listed.1).path (ap (λ (u : Access). u.owner) is)
           (ap (λ (u : Access). u.path) is) end
 
-      pub access_omitted : a ≡ followed.Nothing → Keyed (AccessBecomes s i) none
+      pub access_omitted : a ≡ followed.Nothing → Keyed (BecomesKeyed access_kind s i) key_access_of None
       access_omitted g = becomes_nothing (λ y w.
           finds_none subject_meant g y.subject (subst (λ (u : AccessRecord). Means (table_at s).names u.owner u.path y.subject) (at_one w.at listed.1) w.keys.subject))
 
       pub access_becomes : (k : Key) → a ≡ followed.Key k
-          → Keyed (AccessBecomes s i) (some (record { owner = record { 0 = get_or keys v.owner.0 0 }; object = v.wanted.object; right = v.wanted.right; subject = k; depth = v.depth.0 }))
+          → Keyed (BecomesKeyed access_kind s i) key_access_of (Some (record { owner = record { 0 = get_or keys v.owner.0 0 }; wanted = v.wanted; subject = k; depth = v.depth }))
       access_becomes k g = becomes (record {
         from = listed.0;
         at = listed.1;
@@ -111,7 +113,7 @@ module _ (s keys names accesses delegations sheet : List ℕ) (ready : Ready s k
     written : (x : Delegation) × At (table_at s).delegations i x × (n : ℕ) × (r ≡ as_delegation.Delegation (delegation_value x) n)
     written = again (delegation_record (length keys)) (delegation_walks (length keys)) delegation_read s delegations (table_at s).delegations ready.held.delegations i h r found
 
-    pub delegation_sound : (f : Fault) → r ≡ as_delegation.Fault f → Keyed (DelegationBecomes s i) none
+    pub delegation_sound : (f : Fault) → r ≡ as_delegation.Fault f → Keyed (BecomesKeyed delegation_kind s i) key_delegation_of None
     delegation_sound f e =
         let z : as_delegation.Delegation (delegation_value written.0) written.2 ≡ as_delegation.Fault f = sym written.3 ∙ e in let y : ◌≡◌ {A = ℕ} 0 1 = cc z in absurd (omega arith)
 
@@ -127,7 +129,7 @@ module _ (s keys names accesses delegations sheet : List ℕ) (ready : Ready s k
           meant written.0.writer v.writer written.0.owner_path v.owner a (ready.held.good.delegations i written.0 written.1).owner_path
           (ap (λ (u : DelegationValue). u.writer) its) (ap (λ (u : DelegationValue). u.owner) its) named
 
-      pub owner_omitted : a ≡ followed.Nothing → Keyed (DelegationBecomes s i) none
+      pub owner_omitted : a ≡ followed.Nothing → Keyed (BecomesKeyed delegation_kind s i) key_delegation_of None
       owner_omitted g = becomes_nothing (λ y w.
           finds_none owner_meant g y.owner (subst (λ (u : Delegation). Means (table_at s).names u.writer u.owner_path y.owner) (at_one w.at written.1) w.keys.owner))
 
@@ -137,13 +139,13 @@ module _ (s keys names accesses delegations sheet : List ℕ) (ready : Ready s k
             meant written.0.writer v.writer written.0.delegatee_path v.delegatee b (ready.held.good.delegations i written.0 written.1).delegatee_path
             (ap (λ (u : DelegationValue). u.writer) its) (ap (λ (u : DelegationValue). u.delegatee) its) end
 
-        pub delegatee_omitted : b ≡ followed.Nothing → Keyed (DelegationBecomes s i) none
+        pub delegatee_omitted : b ≡ followed.Nothing → Keyed (BecomesKeyed delegation_kind s i) key_delegation_of None
         delegatee_omitted g = becomes_nothing (λ y w.
             finds_none delegatee_meant g y.delegatee
             (subst (λ (u : Delegation). Means (table_at s).names u.writer u.delegatee_path y.delegatee) (at_one w.at written.1) w.keys.delegatee))
 
         pub delegation_becomes : (o k : Key) → a ≡ followed.Key o → b ≡ followed.Key k
-            → Keyed (DelegationBecomes s i) (some (record { writer = record { 0 = get_or keys v.writer.0 0 }; owner = o; object = v.wanted.object; right = v.wanted.right; delegatee = k; depth = v.depth.0 }))
+            → Keyed (BecomesKeyed delegation_kind s i) key_delegation_of (Some (record { writer = record { 0 = get_or keys v.writer.0 0 }; owner = o; wanted = v.wanted; delegatee = k; depth = v.depth }))
         delegation_becomes o k f g = becomes (record {
           from = written.0;
           at = written.1;

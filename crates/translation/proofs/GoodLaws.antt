@@ -1,5 +1,4 @@
 -- A good table's translation is a good key table, and there is one.
-use mathlib.Core.Path.{◌≡◌}
 use mathlib.Core.List.{List}
 use Prim.Native.Nat.{ℕ}
 use native.Mathlib.Omega.{arith}
@@ -11,9 +10,7 @@ use Rattle.rules.specs.KeyTables.{KeyAccess, KeyDelegation, KeyTable}
 use Rattle.rules.specs.Translation.{AccessToKeys, DelegationToKeys, Translates}
 use Rattle.rules.specs.declared.Key.{Key}
 use Rattle.rules.specs.declared.Space.{Space}
-use Rattle.rules.proofs.NamesLaws.{meaning_one}
 use Rattle.rules.proofs.TranslationLaws.{order_from}
-use Rattle.rules.proofs.TranslationLaws as laws
 use Rattle.rules.proofs.VerdictsLaws.{translates}
 use Rattle.table.specs.ReadTable.{table_at}
 use Rattle.translation.specs.Becoming.{key_table_at}
@@ -26,14 +23,7 @@ means_good t good (bound_to_key {i = i} m s o) = (good.bindings i _ o.at).target
 means_good t good (bound_to_name m s o m') = means_good t good m'
 
 module _ (t : Table) (good : Good t) where
-  -- ---- a record becomes one
-  pub access_one : (x : AccessRecord) (y z : KeyAccess) → AccessToKeys (Means t.names) t x y → AccessToKeys (Means t.names) t x z → y ≡ z
-  access_one = laws.access_one (Means t.names) (λ S p k k' a b. meaning_one t.names good.names a b) t
-
-  pub delegation_one : (x : Delegation) (y z : KeyDelegation) → DelegationToKeys (Means t.names) t x y → DelegationToKeys (Means t.names) t x z → y ≡ z
-  delegation_one = laws.delegation_one (Means t.names) (λ S p k k' a b. meaning_one t.names good.names a b) t
-
-  -- ---- and a good one
+  -- ---- what a good record becomes is good
   access_good : (x : AccessRecord) (y : KeyAccess) → GoodAccess (length t.names.spaces) x → AccessToKeys (Means t.names) t x y → GoodKeyAccess y
   access_good x y g w = record {
     owner = good.names.keys x.owner y.owner w.owner;

@@ -1,7 +1,7 @@
 -- The parts of a key table, written one behind the other: the version and the two sections.
 use mathlib.Core.Path.{◌≡◌, sym, ap}
 use mathlib.Core.List.{List, ◌++◌, append_assoc}
-use Prim.Native.Nat.{ℕ, ◌+◌, ◌≤◌}
+use Prim.Native.Nat.{ℕ, ◌+◌, ◌<◌, ◌≤◌}
 use native.Mathlib.Omega.{arith}
 use lib.ListN.{length, length-append}
 use Rattle.rules.specs.Ranges.{Good}
@@ -12,8 +12,14 @@ use Rattle.records.proofs.WritingLaws.{Wrote, wrote_room, wrote_then, wrote_as}
 use Rattle.table.specs.ReadTable.{table_at, section_bytes}
 use Rattle.table.specs.ReadKeyTable.{most_key_table, key_table_bytes}
 use Rattle.table.proofs.SizesLaws.{key_table_short}
+use Rattle.translation.specs.Kinds.{Kind, KindLaws}
 use Rattle.translation.specs.Becoming.{key_table_at}
-use Rattle.translation.proofs.GoodLaws.{key_table_good}
+use Rattle.translation.proofs.OrderLaws.{order_short}
+use Rattle.translation.proofs.GoodLaws.{key_table_translates, key_table_good}
+
+-- Of each kind it has few records.
+pub few_written : (k : Kind) → KindLaws k → (s : List ℕ) → Good (table_at s) → length (k.key_records (key_table_at s)) < 16384
+few_written k laws s good = omega (arith, order_short (k.ToKeys (table_at s)) (laws.order (table_at s) (key_table_at s) (key_table_translates s good)), laws.few (table_at s) good)
 
 -- It fits.
 pub key_table_fits : (s : List ℕ) → Good (table_at s) → (n : ℕ) → most_key_table ≤ n → length (key_table_bytes (key_table_at s)) ≤ n

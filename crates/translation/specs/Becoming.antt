@@ -1,21 +1,15 @@
 -- What the records of a table become, one by one.
-use Rattle.std.specs.Prelude.{List, ℕ, ◌+◌, ◌≤◌, length}
-use Rattle.std.proofs.Math.Option.{Option, none, some}
+use Rattle.std.specs.Prelude.{List, ℕ, ◌+◌, ◌≤◌, length, Option, Some, None}
 use Rattle.rules.specs.Lists.{At}
-use Rattle.rules.specs.Names.{Means}
 use Rattle.rules.specs.Sheets.{Exact}
-use Rattle.rules.specs.KeyTables.{KeyAccess, KeyDelegation, KeyTable}
-use Rattle.rules.specs.Translation.{AccessToKeys, DelegationToKeys, translate}
+use Rattle.rules.specs.KeyTables.{KeyTable}
+use Rattle.rules.specs.Translation.{translate}
 use Rattle.rules.specs.Greatest.{teller}
 use Rattle.wire.specs.Placed.{placed}
-use Rattle.records.specs.KeyRecords.{key_access_of, key_delegation_of}
 use Rattle.table.specs.ReadTable.{table_at}
 use Rattle.matching.specs.Matching.{Held}
-use Rattle.translation.specs.declared.accesses.AccessKeys.{AccessKeys}
-use Rattle.translation.specs.declared.accesses.AccessKeys.TheVariants as as_access
+use Rattle.translation.specs.Kinds.{Kind}
 use Rattle.translation.specs.declared.sections.Written.{Written}
-use Rattle.translation.specs.declared.delegations.DelegationKeys.{DelegationKeys}
-use Rattle.translation.specs.declared.delegations.DelegationKeys.TheVariants as as_delegation
 
 -- Record number `i` of the list becomes `y`.
 pub record Becomes {A B : Type 0} (ToKeys : A → B → Type 0) (l : List A) (i : ℕ) (y : B) : Type 0 where
@@ -23,17 +17,15 @@ pub record Becomes {A B : Type 0} (ToKeys : A → B → Type 0) (l : List A) (i 
   pub at : At l i from
   pub keys : ToKeys from y
 
-abbrev pub AccessBecomes : List ℕ → ℕ → KeyAccess → Type 0
-AccessBecomes s i = Becomes (AccessToKeys (Means (table_at s).names) (table_at s)) (table_at s).accesses i
-
-abbrev pub DelegationBecomes : List ℕ → ℕ → KeyDelegation → Type 0
-DelegationBecomes s i = Becomes (DelegationToKeys (Means (table_at s).names) (table_at s)) (table_at s).delegations i
+-- Record number `i` of the kind in the table in the bytes becomes `y`.
+abbrev pub BecomesKeyed : (K : Kind) → List ℕ → ℕ → K.KeyRecord → Type 0
+BecomesKeyed K s i = Becomes (K.ToKeys (table_at s)) (K.records (table_at s)) i
 
 -- ---- what is done with a record
--- It is told what the record becomes, or that it becomes nothing.
-pub data Keyed {B : Type 0} (P : B → Type 0) : Option B → Type 0 where
-  becomes : {y : B} → P y → Keyed P (some y)
-  nothing : ((y : B) → P y → ⊥) → Keyed P none
+-- It is told what the record becomes, as code has it, or that it becomes nothing.
+pub data Keyed {V B : Type 0} (P : B → Type 0) (told : V → B) : Option V → Type 0 where
+  becomes : {v : V} → P (told v) → Keyed P told (Some v)
+  nothing : ((y : B) → P y → ⊥) → Keyed P told None
 
 -- What it becomes is placed behind what is written, and counted; where it becomes nothing, all stays.
 pub data Puts {B : Type 0} (P : B → Type 0) (E : B → List ℕ) (before : List ℕ) (written : Written) : List ℕ → Written → Type 0 where
@@ -43,15 +35,6 @@ pub data Puts {B : Type 0} (P : B → Type 0) (E : B → List ℕ) (before : Lis
 -- There is room for it.
 pub record RoomFor {B : Type 0} (P : B → Type 0) (E : B → List ℕ) (out : List ℕ) (at : ℕ) : Type 0 where
   pub room : (y : B) → P y → at + length (E y) ≤ length out
-
--- ---- as code answers
-abbrev pub access_told : AccessKeys → Option KeyAccess
-access_told (as_access.Keys v) = some (key_access_of v)
-access_told as_access.Omitted = none
-
-abbrev pub delegation_told : DelegationKeys → Option KeyDelegation
-delegation_told (as_delegation.Keys v) = some (key_delegation_of v)
-delegation_told as_delegation.Omitted = none
 
 -- A table that was found good, with its index and an exact sheet.
 pub record Ready (s keys names accesses delegations sheet : List ℕ) : Type 0 where

@@ -1,2 +1,3 @@
 pub mod Promise
+pub mod Kinds
 pub mod Becoming

@@ -10,9 +10,9 @@ ghost use Rattle.matching.specs.Matching.{Held};
 ghost use Rattle.translation.specs.Becoming.{Ready, key_table_at};
 ghost use Rattle.translation.specs.Promise.{Answers};
 
-use crate::accesses::write_access_section;
-use crate::delegations::write_delegation_section;
+use crate::sections::write_section;
 use records::faults::Fault;
+use records::keys::{KeyAccess, KeyDelegation};
 use sheet::filling::fill;
 use table::{Loaded, load_index};
 
@@ -43,8 +43,28 @@ fn write_key_table(
     ensures { (result ≡ length (key_table_bytes (key_table_at table.now))) × (out.new ≡ placed out.old 0 (key_table_bytes (key_table_at table.now))) }
 {
     let at1 = wire::write(out, 0);
-    let at2 = write_access_section(table, keys, names, accesses, delegations, sheet, out, at1);
-    write_delegation_section(table, keys, names, accesses, delegations, sheet, out, at2)
+    let at2 = write_section::<KeyAccess>(
+        table,
+        keys,
+        names,
+        accesses,
+        delegations,
+        sheet,
+        accesses.len(),
+        out,
+        at1,
+    );
+    write_section::<KeyDelegation>(
+        table,
+        keys,
+        names,
+        accesses,
+        delegations,
+        sheet,
+        delegations.len(),
+        out,
+        at2,
+    )
 }
 
 // Translates a table that was found good, by a sheet of its own.
@@ -92,21 +112,13 @@ pub fn translate(table: &[u8], out: &mut [u8]) -> Translated
             if out.len() < MOST_KEY_TABLE {
                 return Translated::Room;
             }
-            let spaces = sections.spaces;
-            let bound = sections.bindings;
-            let listed = sections.accesses;
-            let written = sections.delegations;
-            let a = spaces.count;
-            let b = bound.count;
-            let c = listed.count;
-            let d = written.count;
             Translated::Done(translate_good(
                 table,
-                &keys[..a],
-                &names[..b],
+                &keys[..sections.spaces.count],
+                &names[..sections.bindings.count],
                 &bindings,
-                &accesses[..c],
-                &delegations[..d],
+                &accesses[..sections.accesses.count],
+                &delegations[..sections.delegations.count],
                 out,
             ))
         }
