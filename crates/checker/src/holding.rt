@@ -50,11 +50,10 @@ pub fn hold(
     ) {
         return Given::Nothing;
     }
-    let meant = follow_target(keys, names, sheet, subject);
-    let Followed::Key(key) = meant else {
+    let Followed::Key(key) = follow_target(keys, names, sheet, subject) else {
         return Given::Nothing;
     };
-    let end = walk(
+    let Given::To(last, depth) = walk(
         table,
         keys,
         names,
@@ -66,8 +65,7 @@ pub fn hold(
         derivation,
         parts.chain,
         parts.delegations,
-    );
-    let Given::To(last, depth) = end else {
+    ) else {
         return Given::Nothing;
     };
     if last.0 != key.0 {
@@ -90,33 +88,27 @@ pub fn check_good(
     requires { Known (table_at table.now).names table.now keys.now names.now bindings.now × Held table.now keys.now names.now accesses.now delegations.now }
     ensures { ChecksGood (table_at table.now) request.now derivation.now result }
 {
-    let asked = read_request(request, keys.len());
-    let RequestRead::Request(wish) = asked else {
+    let RequestRead::Request(wish) = read_request(request, keys.len()) else {
         return Checked::BadRequest;
     };
-    let shown = read_derivation(derivation);
-    let DerivationRead::Derivation(parts) = shown else {
+    let DerivationRead::Derivation(parts) = read_derivation(derivation) else {
         return Checked::NotDerivation;
     };
-    let subject = wish.subject;
-    let owner = wish.owner;
-    let wanted = wish.wanted;
     let mut sheet = [0; 256];
-    let end = hold(
+    let Given::To(_, depth) = hold(
         table,
         keys,
         names,
         bindings,
         accesses,
         delegations,
-        subject,
-        owner,
-        wanted,
+        wish.subject,
+        wish.owner,
+        wish.wanted,
         derivation,
         parts,
         &mut sheet,
-    );
-    let Given::To(_, depth) = end else {
+    ) else {
         return Checked::NotDerivation;
     };
     Checked::Accepted(depth)

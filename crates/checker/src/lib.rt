@@ -38,21 +38,13 @@ pub fn check(table: &[u8], request: &[u8], derivation: &[u8]) -> Checked
         &mut delegations,
     ) {
         Loaded::Good(sections) => {
-            let spaces = sections.spaces;
-            let bound = sections.bindings;
-            let listed = sections.accesses;
-            let written = sections.delegations;
-            let a = spaces.count;
-            let b = bound.count;
-            let c = listed.count;
-            let d = written.count;
             check_good(
                 table,
-                &keys[..a],
-                &names[..b],
+                &keys[..sections.spaces.count],
+                &names[..sections.bindings.count],
                 &bindings,
-                &accesses[..c],
-                &delegations[..d],
+                &accesses[..sections.accesses.count],
+                &delegations[..sections.delegations.count],
                 request,
                 derivation,
             )

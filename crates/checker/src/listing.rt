@@ -23,23 +23,19 @@ pub fn enter_listed(
     ensures { EntersAll (table_at table.now).names derivation.now from count sheet.new result }
 {
     let mut at = from;
-    let mut i = 0;
-    while i < count {
-        let number = read_field(derivation, at, 0, 255);
-        let Field::Value(value, next) = number else {
+    for _ in 0..count {
+        let Field::Value(value, next) = read_field(derivation, at, 0, 255) else {
             return false;
         };
         let which = value as usize;
-        if names.len() <= which {
+        if which >= names.len() {
             return false;
         }
-        let found = meaning(table, keys, names, bindings, sheet, which);
-        let Followed::Key(key) = found else {
+        let Followed::Key(key) = meaning(table, keys, names, bindings, sheet, which) else {
             return false;
         };
         sheet[which] = key.0;
         at = next;
-        i = i + 1;
     }
     true
 }

@@ -26,7 +26,7 @@ fn walk_one(
         × (which < length (table_at table.now).delegations) }
     ensures { Gives (StepTo (table_at table.now) sheet.now (asked_of owner wanted) which holder depth.0) result }
 {
-    let handed = match_delegation(
+    let Handed::On(writer, key, by) = match_delegation(
         table,
         keys,
         names,
@@ -36,16 +36,10 @@ fn walk_one(
         owner,
         wanted,
         which,
-    );
-    let Handed::On(writer, key, by) = handed else {
+    ) else {
         return Given::Nothing;
     };
-    let number = writer.0;
-    if keys[number] != holder.0 {
-        return Given::Nothing;
-    }
-    let left = depth.number();
-    if left == 0 {
+    if keys[writer.0] != holder.0 || depth.number() == 0 {
         return Given::Nothing;
     }
     Given::To(key, depth.step(by))
@@ -71,19 +65,17 @@ fn walk_on(
     ensures { GoesOn (table_at table.now) sheet.now (asked_of owner wanted) derivation.now from count start begun.0 result }
 {
     let mut at = from;
-    let mut i = 0;
-    let mut holder = start.0;
+    let mut holder = start;
     let mut depth = begun;
-    while i < count {
-        let number = read_field(derivation, at, 0, 511);
-        let Field::Value(value, next) = number else {
+    for _ in 0..count {
+        let Field::Value(value, next) = read_field(derivation, at, 0, 511) else {
             return Given::Nothing;
         };
         let which = value as usize;
-        if delegations.len() <= which {
+        if which >= delegations.len() {
             return Given::Nothing;
         }
-        let one = walk_one(
+        let Given::To(key, left) = walk_one(
             table,
             keys,
             names,
@@ -93,18 +85,16 @@ fn walk_on(
             owner,
             wanted,
             which,
-            Key(holder),
+            holder,
             depth,
-        );
-        let Given::To(key, left) = one else {
+        ) else {
             return Given::Nothing;
         };
-        holder = key.0;
+        holder = key;
         depth = left;
         at = next;
-        i = i + 1;
     }
-    Given::To(Key(holder), depth)
+    Given::To(holder, depth)
 }
 
 // The chain whose numbers stand from a place on: the key that its last name leads to, with the depth.
@@ -124,15 +114,14 @@ pub fn walk(
     requires { Held table.now keys.now names.now accesses.now delegations.now × (length names.now ≤ length sheet.now) × (owner.0 < length keys.now) }
     ensures { WalksAll (table_at table.now) sheet.now (asked_of owner wanted) derivation.now from count result }
 {
-    let number = read_field(derivation, from, 0, 255);
-    let Field::Value(value, next) = number else {
+    let Field::Value(value, next) = read_field(derivation, from, 0, 255) else {
         return Given::Nothing;
     };
     let which = value as usize;
-    if accesses.len() <= which {
+    if which >= accesses.len() {
         return Given::Nothing;
     }
-    let first = match_access(
+    let Given::To(key, depth) = match_access(
         table,
         keys,
         names,
@@ -142,8 +131,7 @@ pub fn walk(
         owner,
         wanted,
         which,
-    );
-    let Given::To(key, depth) = first else {
+    ) else {
         return Given::Nothing;
     };
     walk_on(

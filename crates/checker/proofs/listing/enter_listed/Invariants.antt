@@ -1,12 +1,8 @@
 -- `enter_listed` enters one listed binding after the other.
-use Prim.Native.Nat.{◌-◌}
 use lib.ListN.{length}
 use Rattle.table.specs.ReadTable.{table_at}
 use Rattle.checker.proofs.EnteringLaws.{Entering}
 use Rattle.checker.proofs.listing.enter_listed.Given as goal
 
-abbrev pub invariant-loop-i : goal.invariant-loop-i
-invariant-loop-i l = Entering (table_at l.table).names l.derivation l.from l.count (length l.initial.sheet) l.sheet l.at l.i
-
-abbrev pub decreases-loop-i : goal.decreases-loop-i
-decreases-loop-i l = l.count - l.i
+abbrev pub invariant-loop : goal.invariant-loop
+invariant-loop l = Entering (table_at l.table).names l.derivation l.from l.count (length l.initial.sheet) l.sheet l.at l.counter
