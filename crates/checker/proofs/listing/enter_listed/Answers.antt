@@ -1,19 +1,13 @@
 -- `enter_listed` enters one listed binding after the other.
 use native.Mathlib.Omega.{arith}
-use Rattle.checker.proofs.EnteringLaws.{entering_start, no_number, not_there, leads_to_none, enters_one, entering_end}
+use Rattle.checker.proofs.EnteringLaws.{no_number, not_there, leads_to_none, enters_one, entering_end}
 use Rattle.checker.proofs.listing.enter_listed.Goals as goal
-
-pub loop-init : goal.loop-init
-loop-init c = entering_start _ _ _ _ _ c.requires.2
 
 pub returns-in_default : goal.returns-in_default
 returns-in_default c = no_number _ _ _ _ _ _ _ _ c.loop.invariant c.loop-test.true _ c.read_field.ensures _ c.in_default.is
 
 pub returns-then-which-names : goal.returns-then-which-names
 returns-then-which-names c = not_there _ _ _ _ _ _ _ _ c.loop.invariant c.loop-test.true _ c.read_field.ensures _ _ c.in-Value.is _ _ _ _ c.requires.0 c.if-which-names.true
-
-pub meaning-requires : goal.meaning-requires
-meaning-requires c = (c.requires.0, omega (arith, c.requires.1, c.loop.invariant.size), c.if-which-names.false)
 
 pub returns-in_default-meaning : goal.returns-in_default-meaning
 returns-in_default-meaning c = leads_to_none _ _ _ _ _ _ _ _ c.loop.invariant c.loop-test.true _ c.read_field.ensures _ _ c.in-Value.is _ _ _ _ c.requires.0 _ c.meaning.ensures c.in_default-meaning.is

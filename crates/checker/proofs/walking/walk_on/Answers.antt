@@ -1,20 +1,14 @@
 -- `walk_on` takes one step for each delegation of the chain.
 use mathlib.Core.Path.{refl}
-use Rattle.matching.proofs.MatchingLaws.{delegations_past, delegations_below}
-use Rattle.checker.proofs.WalkingLaws.{walk_starts, no_next, not_written, stops_here, walks_on, walk_ends}
+use Rattle.matching.proofs.MatchingLaws.{delegations_past}
+use Rattle.checker.proofs.WalkingLaws.{no_next, not_written, stops_here, walks_on, walk_ends}
 use Rattle.checker.proofs.walking.walk_on.Goals as goal
-
-pub loop-init : goal.loop-init
-loop-init c = walk_starts _ c.requires.0.good.names _ _ _ _ _ _ _
 
 pub returns-in_default : goal.returns-in_default
 returns-in_default c = no_next _ c.requires.0.good.names _ _ _ _ _ _ _ _ _ _ _ c.loop.invariant c.loop-test.true _ c.read_field.ensures _ c.in_default.is
 
 pub returns-then-which-delegations : goal.returns-then-which-delegations
 returns-then-which-delegations c = not_written _ c.requires.0.good.names _ _ _ _ _ _ _ _ _ _ _ c.loop.invariant c.loop-test.true _ c.read_field.ensures _ _ c.in-Value.is (delegations_past _ _ _ _ _ c.requires.0 _ c.if-which-delegations.true)
-
-pub walk_one-requires : goal.walk_one-requires
-walk_one-requires c = (c.requires.0, c.requires.1, c.requires.2, delegations_below _ _ _ _ _ c.requires.0 _ c.if-which-delegations.false)
 
 pub returns-in_default-walk_one : goal.returns-in_default-walk_one
 returns-in_default-walk_one c = stops_here _ c.requires.0.good.names _ _ _ _ _ _ _ _ _ _ _ c.loop.invariant c.loop-test.true _ c.read_field.ensures _ _ c.in-Value.is _ c.walk_one.ensures c.in_default-walk_one.is

@@ -1,14 +1,11 @@
 -- `walk_one` takes the delegation that was found, if it is by the holder and a step is left.
 use mathlib.Core.Path.{sym, ◌∙◌}
-use Rattle.checker.proofs.WalkingLaws.{hands_nothing, writer_below, another_wrote, no_depth_left, steps_on}
+use Rattle.checker.proofs.WalkingLaws.{hands_nothing, another_wrote, no_depth_left, steps_on}
 use Rattle.checker.proofs.walking.walk_one.Goals as goal
 use Rattle.checker.proofs.walking.walk_one.Goals.{then-keys-writer-via-then-keys-writer, then-keys-writer-via-else-keys-writer+then-number-eq0}
 
 pub returns-in_default : goal.returns-in_default
 returns-in_default c = hands_nothing _ _ _ _ _ c.requires.0 _ _ _ _ c.match_delegation.ensures _ _ c.in_default.is
-
-pub bounds-keys-writer : goal.bounds-keys-writer
-bounds-keys-writer c = writer_below _ _ _ _ _ c.requires.0 _ _ _ _ c.match_delegation.ensures c.args.holder c.args.depth.0 _ _ _ c.in-On.is
 
 pub returns-then-keys-writer : goal.returns-then-keys-writer
 returns-then-keys-writer c =
