@@ -16,10 +16,9 @@ use Rattle.rules.specs.Sheets.{entry}
 use Rattle.rules.specs.Derivations.{MeansFrom, OrderedAfter, Ordered}
 use Rattle.rules.specs.Filling.{Filling}
 use Rattle.rules.specs.declared.Key.{Key}
-use Rattle.rules.proofs.SheetsLaws.{filling_start, filling_step, filling_leads}
+use Rattle.rules.proofs.SheetsLaws.{filling_step, filling_leads}
 use Rattle.records.specs.Parsed.{Parsed, got, bad, fault_at}
 use Rattle.records.specs.Fields.{field, field_read}
-use Rattle.records.specs.Many.{many}
 use Rattle.records.specs.Rows.{is_among}
 use Rattle.records.specs.DerivationBytes.{listed_number}
 use Rattle.records.specs.declared.faults.Kind.TheVariants as kind
@@ -27,14 +26,14 @@ use Rattle.records.specs.declared.faults.Fault.{Fault}
 use Rattle.records.specs.declared.fields.Field.{Field}
 use Rattle.records.specs.declared.fields.Field.TheVariants as as_field
 use Rattle.records.proofs.ParsedLaws.{then_got}
-use Rattle.records.proofs.ManyLaws.{Left, left_start, left_on}
+use Rattle.records.proofs.ManyLaws.{Left, left_on}
 use Rattle.table.proofs.FindingLaws.{at_below}
 use Rattle.sheet.specs.Listings.{Known, Leading}
 use Rattle.sheet.specs.declared.following.Followed.{Followed}
 use Rattle.sheet.specs.declared.following.Followed.TheVariants as followed
 use Rattle.sheet.proofs.FindsLaws.{finds_key, finds_none}
 use Rattle.sheet.proofs.MeaningLaws.{index_bindings}
-use Rattle.checker.specs.Walks.{Blank, Listed, all, unordered, EntersAll}
+use Rattle.checker.specs.Walks.{Listed, all, unordered, EntersAll}
 
 -- ---- lists
 -- What an order says of its element number `i`.
@@ -72,16 +71,6 @@ module _ (t : NameTable) (s : List ℕ) (from count : ℕ) where
     pub size : length sheet ≡ room
     pub most : i ≤ count
     pub entered : (L : List ℕ) (l : Listed s from count L) → Entered L l.end sheet at i
-
-  pub entering_start : (sheet : List ℕ) → Blank t sheet → Entering (length sheet) sheet from 0
-  entering_start sheet b = record {
-    size = refl;
-    most = omega arith;
-    entered = λ L l. record {
-      left = left_start listed_number s L l.end from (ap (λ (n : ℕ). many listed_number n [] s from) l.size ∙ l.reads);
-      filling = filling_start t sheet b.zero;
-    };
-  }
 
   module _ (room : ℕ) (sheet : List ℕ) (at i : ℕ) (e : Entering room sheet at i) where
     pub entering_end : count ≤ i → EntersAll t s from count sheet true

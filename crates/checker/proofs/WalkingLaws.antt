@@ -24,7 +24,7 @@ use Rattle.records.specs.DerivationBytes.{chain_number}
 use Rattle.records.specs.declared.faults.Fault.{Fault}
 use Rattle.records.specs.declared.fields.Field.{Field}
 use Rattle.records.specs.declared.fields.Field.TheVariants as as_field
-use Rattle.records.proofs.ManyLaws.{Left, left_start, left_on}
+use Rattle.records.proofs.ManyLaws.{Left, left_on}
 use Rattle.table.specs.ReadTable.{table_at}
 use Rattle.sheet.proofs.FindsLaws.{own_key, leads_one}
 use Rattle.sheet.proofs.MeaningLaws.{index_spaces}
@@ -148,12 +148,6 @@ module _ (t : Table) (good : GoodNames t.names) (sheet : List ℕ) (q : Asked Sp
 
   -- ---- the loop
   module _ (s : List ℕ) (from count : ℕ) (start : Key) (begun : ℕ) where
-    pub walk_starts : Walking t sheet q s from count start begun from 0 start begun
-    walk_starts = record {
-      most = omega arith;
-      walked = λ a D n w. record { left = left_start chain_number s D n.end from (ap (λ (m : ℕ). many chain_number m [] s from) n.size ∙ n.reads); reached = w };
-    }
-
     module _ (at i : ℕ) (holder : Key) (d : ℕ) (o : Walking t sheet q s from count start begun at i holder d) where
       pub walk_ends : (b : Depth) → b.0 ≡ d → count ≤ i → GoesOn t sheet q s from count start begun (as_given.To holder b)
       walk_ends b e h a D n w =
