@@ -1,35 +1,30 @@
 -- The checker's answers over a good table, and over any bytes.
-use mathlib.Core.Path.{◌≡◌, refl, sym, ◌∙◌, subst}
+use mathlib.Core.Path.{◌≡◌, refl, sym, ◌∙◌, ap, subst}
 use mathlib.Core.List.{List}
-use mathlib.Core.Option.{Option, none, some, some-injective}
+use mathlib.Core.Option.{Option, none, some}
 use Prim.Native.Nat.{ℕ, zero, suc, ◌<◌}
 use native.Mathlib.Omega.{arith}
 use lib.ListN.{length, get_or, replicate}
+use Rattle.std.specs.Prelude.{Option as Answer, Some, None, Result, Ok, Err}
 use Rattle.rules.specs.Tables.{Request, NameTable, Table}
 use Rattle.rules.specs.Derivations.{Holds}
 use Rattle.rules.specs.declared.Key.{Key}
-use Rattle.rules.specs.declared.Depth.{Depth}
 use Rattle.wire.specs.Number.{Bytes}
 use Rattle.records.specs.Targets.{target_of}
-use Rattle.records.specs.Requests.{read_request, request_read}
-use Rattle.records.specs.DerivationBytes.{Laid, read_derivation, derivation_read, parts_of}
+use Rattle.records.specs.Requests.{read_request, request_value, held_as}
+use Rattle.records.specs.DerivationBytes.{Laid, read_derivation, parts_of}
 use Rattle.records.specs.declared.derivations.Parts.{Parts}
-use Rattle.records.specs.declared.derivations.DerivationRead.{DerivationRead}
-use Rattle.records.specs.declared.derivations.DerivationRead.TheVariants as as_derivation
 use Rattle.records.specs.declared.faults.Fault.{Fault}
 use Rattle.records.specs.declared.requests.Request.{Request as RequestValue}
-use Rattle.records.specs.declared.requests.RequestRead.{RequestRead}
-use Rattle.records.specs.declared.requests.RequestRead.TheVariants as as_request
-use Rattle.table.specs.ReadTable.{read_table, table_at, loaded_of}
-use Rattle.table.specs.declared.Loaded.{Loaded}
-use Rattle.table.specs.declared.Loaded.TheVariants as loaded
-use Rattle.table.specs.declared.Sections.{Sections}
+use Rattle.records.proofs.ParsedLaws.{some_or_none, some_one}
+use Rattle.table.specs.ReadTable.{table_at}
 use Rattle.sheet.specs.Finds.{FittingTarget}
 use Rattle.sheet.proofs.KnownLaws.{table_at_lem}
-use Rattle.matching.specs.Matching.{asked_of, Gives, Held}
+use Rattle.matching.specs.Held.{Held}
+use Rattle.matching.specs.Matching.{asked_of, Gives}
+use Rattle.matching.specs.Opening.{Opens}
 use Rattle.matching.specs.declared.Given.{Given}
-use Rattle.matching.specs.declared.Given.TheVariants as as_given
-use Rattle.matching.proofs.HeldLaws.{Read, read_bad}
+use Rattle.matching.specs.declared.good.Good.{Good}
 use Rattle.matching.proofs.AskedLaws.{Asks, asks, asks_nothing}
 use Rattle.checker.specs.Walks.{Blank}
 use Rattle.checker.specs.Promise.{ChecksGood, bad_request, not_derivation, accepted, Checks, bad_table, good_table, HoldsAs}
@@ -38,13 +33,13 @@ use Rattle.checker.specs.declared.Checked.TheVariants as checked
 use Rattle.matching.proofs.MatchingLaws.{gives_to, gives_none}
 
 -- ---- what the readers' answers say
-derivation_not : (p : Option Laid) (r : DerivationRead) → r ≡ derivation_read p → r ≡ as_derivation.Not → p ≡ none
-derivation_not none r e h = refl
-derivation_not (some x) r e h = let z : ◌≡◌ {A = ℕ} 0 1 = cc in absurd (omega arith)
+derivation_not : (p : Option Laid) → None ≡ held_as parts_of p → p ≡ none
+derivation_not none e = refl
+derivation_not (some x) e = let z : ◌≡◌ {A = ℕ} 0 1 = cc in absurd (omega arith)
 
-derivation_is : (p : Option Laid) (r : DerivationRead) (v : Parts) → r ≡ derivation_read p → r ≡ as_derivation.Derivation v → (x : Laid) × (p ≡ some x) × (parts_of x ≡ v)
-derivation_is none r v e h = let z : ◌≡◌ {A = ℕ} 0 1 = cc in absurd (omega arith)
-derivation_is (some x) r v e h = let q : parts_of x ≡ v = cc in (x, refl, q)
+derivation_is : (p : Option Laid) (v : Parts) → Some v ≡ held_as parts_of p → (x : Laid) × (p ≡ some x) × (parts_of x ≡ v)
+derivation_is none v e = let z : ◌≡◌ {A = ℕ} 0 1 = cc in absurd (omega arith)
+derivation_is (some x) v e = let q : parts_of x ≡ v = cc in (x, refl, q)
 
 zeros : (n i : ℕ) → get_or (replicate {A = ℕ} n 0) i 0 ≡ 0
 zeros zero i = refl
@@ -55,44 +50,43 @@ pub blank_sheet : (t : NameTable) (n : ℕ) → Blank t (replicate n 0)
 blank_sheet t n = record { zero = λ i h. zeros n i }
 
 -- ---- over a good table
-module _ (s keys names accesses delegations : List ℕ) (held : Held s keys names accesses delegations) (asked : RequestRead) (request : List ℕ) (read : asked ≡ request_read (read_request (length keys) request)) (derivation : List ℕ) where
-  pub bad_request_lem : asked ≡ as_request.Not → ChecksGood (table_at s) request derivation checked.BadRequest
-  bad_request_lem e = bad_request (asks_nothing s keys names accesses delegations held asked request read e)
+module _ (s keys names accesses delegations : List ℕ) (held : Held s keys names accesses delegations) (request derivation : List ℕ) where
+  pub bad_request_lem : None ≡ held_as request_value (read_request (length keys) request) → ChecksGood (table_at s) request derivation checked.BadRequest
+  bad_request_lem e = bad_request (asks_nothing s keys names accesses delegations held request e)
 
-  module _ (bytes : Bytes request) (wish : RequestValue) (e : asked ≡ as_request.Request wish) where
+  module _ (bytes : Bytes request) (wish : RequestValue) (e : Some wish ≡ held_as request_value (read_request (length keys) request)) where
     is : Asks s keys request wish
-    is = asks s keys names accesses delegations held asked request read bytes wish e
+    is = asks s keys names accesses delegations held request bytes wish e
 
     pub wish_fits : FittingTarget (length keys) wish.subject × (wish.owner.0 < length keys)
     wish_fits = (is.subject, is.owner)
 
-    module _ (shown : DerivationRead) (found : shown ≡ derivation_read (read_derivation derivation)) where
-      pub no_derivation : shown ≡ as_derivation.Not → ChecksGood (table_at s) request derivation checked.NotDerivation
-      no_derivation z =
+    pub no_derivation : None ≡ held_as parts_of (read_derivation derivation) → ChecksGood (table_at s) request derivation checked.NotDerivation
+    no_derivation z = not_derivation is.read (λ v d q h. some_or_none q (derivation_not (read_derivation derivation) z))
+
+    module _ (parts : Parts) (z : Some parts ≡ held_as parts_of (read_derivation derivation)) (end : Answer Given)
+        (holds : HoldsAs (table_at s) (target_of wish.subject) (asked_of wish.owner wish.wanted) derivation parts end) where
+      this : (x : Laid) × (read_derivation derivation ≡ some x) × (parts_of x ≡ parts)
+      this = derivation_is (read_derivation derivation) parts z
+
+      what_held : Gives (λ (k : Key) (d : ℕ). Holds (table_at s) is.value this.0.derivation d) end
+      what_held = subst (λ (r : Request). Gives (λ (k : Key) (d : ℕ). Holds (table_at s) r this.0.derivation d) end) is.same (holds this.0 this.1 this.2)
+
+      pub does_not_hold : end ≡ None → ChecksGood (table_at s) request derivation checked.NotDerivation
+      does_not_hold y =
           not_derivation is.read (λ v d q h.
-          let w : ◌≡◌ {A = Option Laid} none (some v) = sym (derivation_not (read_derivation derivation) shown found z) ∙ q in
-          let y : ◌≡◌ {A = ℕ} 0 1 = cc in
-          absurd (omega arith))
+          let u : this.0 ≡ v = some_one this.1 q in
+          gives_none what_held y (record { 0 = 0 }) d (subst (λ (x : Laid). Holds (table_at s) is.value x.derivation d) (sym u) h))
 
-      module _ (parts : Parts) (z : shown ≡ as_derivation.Derivation parts) (end : Given) (holds : HoldsAs (table_at s) (target_of wish.subject) (asked_of wish.owner wish.wanted) derivation parts end) where
-        this : (x : Laid) × (read_derivation derivation ≡ some x) × (parts_of x ≡ parts)
-        this = derivation_is (read_derivation derivation) shown parts found z
-
-        held_as : Gives (λ (k : Key) (d : ℕ). Holds (table_at s) is.value this.0.derivation d) end
-        held_as = subst (λ (r : Request). Gives (λ (k : Key) (d : ℕ). Holds (table_at s) r this.0.derivation d) end) is.same (holds this.0 this.1 this.2)
-
-        pub does_not_hold : end ≡ as_given.Nothing → ChecksGood (table_at s) request derivation checked.NotDerivation
-        does_not_hold y =
-            not_derivation is.read (λ v d q h.
-            let u : this.0 ≡ v = some-injective this.0 v (sym this.1 ∙ q) in
-            gives_none held_as y (record { 0 = 0 }) d (subst (λ (x : Laid). Holds (table_at s) is.value x.derivation d) (sym u) h))
-
-        pub does_hold : (k : Key) (d : Depth) → end ≡ as_given.To k d → ChecksGood (table_at s) request derivation (checked.Accepted d)
-        does_hold k d y = accepted is.read this.1 (gives_to held_as y)
+      pub does_hold : (g : Given) → end ≡ Some g → ChecksGood (table_at s) request derivation (checked.Accepted g.depth)
+      does_hold g y = accepted is.read this.1 (gives_to what_held y)
 
 -- ---- over any bytes
-pub table_bad : (s request derivation : List ℕ) (r : Loaded) → r ≡ loaded_of (read_table s) → (f : Fault) → r ≡ loaded.Bad f → Checks s request derivation (checked.BadTable f)
-table_bad s request derivation r read f e = bad_table (read_bad (read_table s) r f read e)
+pub opened_bad : (s request derivation : List ℕ) (r : Result Good Fault) → Opens s r → (f : Fault) → r ≡ Err f → Checks s request derivation (checked.BadTable f)
+opened_bad s request derivation r w f e = bad_table (subst (Opens s) e w)
 
-pub table_good : (s request derivation : List ℕ) (v : Sections) → Read s v → (a : Checked) → ChecksGood (table_at s) request derivation a → Checks s request derivation a
-table_good s request derivation v w a h = good_table w.table (subst (λ (t : Table). ChecksGood t request derivation a) (table_at_lem s w.laid w.end w.table) h)
+pub opened_good : (s request derivation : List ℕ) (r : Result Good Fault) → Opens s r → (g : Good) → r ≡ Ok g → (a : Checked) → ChecksGood (table_at g.names.table.now) request derivation a → Checks s request derivation a
+opened_good s request derivation r w g e a h = go (subst (Opens s) e w)
+  where
+    go : Opens s (Ok g) → Checks s request derivation a
+    go (same, read) = good_table read.2 (subst (λ (t : Table). ChecksGood t request derivation a) (ap table_at same ∙ table_at_lem s read.0 read.1 read.2) h)

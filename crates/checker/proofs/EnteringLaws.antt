@@ -9,6 +9,7 @@ use native.Mathlib.Numerals.{add-one}
 use native.Mathlib.Omega.{arith}
 use lib.ListN.{length, take, get_or, set, length-set}
 use lib.Seq.{take-suc, take_all}
+use Rattle.std.specs.Prelude.{Option, Some, None}
 use Rattle.rules.specs.Choice.{pick}
 use Rattle.rules.specs.Lists.{At, ◌▷◌, In, NoneTwice}
 use Rattle.rules.specs.Tables.{Binding, NameTable}
@@ -18,19 +19,16 @@ use Rattle.rules.specs.Filling.{Filling}
 use Rattle.rules.specs.declared.Key.{Key}
 use Rattle.rules.proofs.SheetsLaws.{filling_step, filling_leads}
 use Rattle.records.specs.Parsed.{Parsed, got, bad, fault_at}
-use Rattle.records.specs.Fields.{field, field_read}
+use Rattle.records.specs.Fields.{field}
 use Rattle.records.specs.Rows.{is_among}
 use Rattle.records.specs.DerivationBytes.{listed_number}
 use Rattle.records.specs.declared.faults.Kind.TheVariants as kind
 use Rattle.records.specs.declared.faults.Fault.{Fault}
-use Rattle.records.specs.declared.fields.Field.{Field}
-use Rattle.records.specs.declared.fields.Field.TheVariants as as_field
-use Rattle.records.proofs.ParsedLaws.{then_got}
+use Rattle.records.proofs.ParsedLaws.{then_got, got_or_bad}
 use Rattle.records.proofs.ManyLaws.{Left, left_on}
 use Rattle.table.proofs.FindingLaws.{at_below}
-use Rattle.sheet.specs.Listings.{Known, Leading}
-use Rattle.sheet.specs.declared.following.Followed.{Followed}
-use Rattle.sheet.specs.declared.following.Followed.TheVariants as followed
+use Rattle.sheet.specs.Known.{Known}
+use Rattle.sheet.specs.Listings.{Leading}
 use Rattle.sheet.proofs.FindsLaws.{finds_key, finds_none}
 use Rattle.sheet.proofs.MeaningLaws.{index_bindings}
 use Rattle.checker.specs.Walks.{Listed, all, unordered, EntersAll}
@@ -76,30 +74,26 @@ module _ (t : NameTable) (s : List ℕ) (from count : ℕ) where
     pub entering_end : count ≤ i → EntersAll t s from count sheet true
     entering_end h L l = all (subst (Filling t sheet) (take_all i L (omega (arith, l.size))) (e.entered L l).filling)
 
-    module _ (h : i < count) (r : Field) (found : r ≡ field_read (field 0 255 s at)) where
+    module _ (h : i < count) where
       -- The next number, as it is read.
-      next_number : (L : List ℕ) (l : Listed s from count L) → (mid : ℕ) × (r ≡ as_field.Value (get_or L i 0) mid) × Left listed_number s L l.end (i + 1) mid
+      next_number : (L : List ℕ) (l : Listed s from count L) → (mid : ℕ) × (field 0 255 s at ≡ got (get_or L i 0) mid) × Left listed_number s L l.end (i + 1) mid
       next_number L l =
           let w = left_on listed_number s L l.end i at 0 (omega (arith, l.size)) (e.entered L l).left in
           let a = then_got {B = ℕ} (λ v next. pick (is_among (take i L) v) (bad (fault_at kind.Twice at)) (got v next)) (field 0 255 s at) (get_or L i 0) w.0 w.1 in
-          (w.0, found ∙ ap field_read (a.2 ∙ same a.0 a.1 (is_among (take i L) a.0) a.3), w.2)
+          (w.0, a.2 ∙ same a.0 a.1 (is_among (take i L) a.0) a.3, w.2)
         where
           same : {x mid : ℕ} (v n : ℕ) (b : Bool) → pick b (bad (fault_at kind.Twice at)) (got v n) ≡ got x mid → ◌≡◌ {A = Parsed ℕ} (got v n) (got x mid)
           same v n true q = let z : ◌≡◌ {A = ℕ} 0 1 = cc in absurd (omega arith)
           same v n false q = q
 
-      pub no_number : (f : Fault) → r ≡ as_field.Fault f → EntersAll t s from count sheet false
-      no_number f g L l =
-          let w = next_number L l in
-          let q : as_field.Value (get_or L i 0) w.0 ≡ as_field.Fault f = sym w.1 ∙ g in
-          let z : ◌≡◌ {A = ℕ} 0 1 = cc in
-          absurd (omega arith)
+      pub no_number : (f : Fault) → field 0 255 s at ≡ bad f → EntersAll t s from count sheet false
+      no_number f g L l = absurd (got_or_bad (next_number L l).1 g)
 
-      module _ (v next : ℕ) (g : r ≡ as_field.Value v next) where
+      module _ (v next : ℕ) (g : field 0 255 s at ≡ got v next) where
         is_number : (L : List ℕ) (l : Listed s from count L) → (get_or L i 0 ≡ v) × Left listed_number s L l.end (i + 1) next
         is_number L l =
             let w = next_number L l in
-            let q : as_field.Value (get_or L i 0) w.0 ≡ as_field.Value v next = sym w.1 ∙ g in
+            let q : ◌≡◌ {A = Parsed ℕ} (got (get_or L i 0) w.0) (got v next) = sym w.1 ∙ g in
             let a : get_or L i 0 ≡ v = cc q in
             let b : w.0 ≡ next = cc q in
             (a, subst (Left listed_number s L l.end (i + 1)) b w.2)
@@ -112,14 +106,14 @@ module _ (t : NameTable) (s : List ℕ) (from count : ℕ) where
           pub not_there : length names ≤ v → EntersAll t s from count sheet false
           not_there b L l = unordered (λ o. omega (arith, (means_from L l o).at.there, index_bindings t keys names known.index))
 
-          module _ (a : Followed) (leading : Leading t sheet v a) where
-            pub leads_to_none : a ≡ followed.Nothing → EntersAll t s from count sheet false
+          module _ (a : Option Key) (leading : Leading t sheet v a) where
+            pub leads_to_none : a ≡ None → EntersAll t s from count sheet false
             leads_to_none n L l =
                 unordered (λ o.
                 let m = means_from L l o in
                 finds_none (leading.finds m.binding m.at) n m.key ((filling_leads t known.index.good sheet (take i L) (e.entered L l).filling m.binding.target m.key).1 m.means))
 
-            pub enters_one : (k : Key) → a ≡ followed.Key k → v < length names → v < length sheet → Entering room (set sheet v k.0) next (i + 1)
+            pub enters_one : (k : Key) → a ≡ Some k → v < length names → v < length sheet → Entering room (set sheet v k.0) next (i + 1)
             enters_one k n b c = record {
               size = length-set sheet v k.0 ∙ e.size;
               most = omega arith;

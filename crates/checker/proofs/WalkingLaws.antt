@@ -1,11 +1,12 @@
 -- A chain, record after record.
-use mathlib.Core.Path.{◌≡◌, refl, sym, ◌∙◌, ap, subst}
+use mathlib.Core.Path.{◌≡◌, refl, sym, ◌∙◌, ap, subst, subst₂}
 use mathlib.Core.List.{List, [], ◌∷◌, ◌++◌}
 use Prim.Native.Nat.{ℕ, suc, ◌+◌, ◌<◌, ◌≤◌}
 use native.Mathlib.Numerals.{add-one}
 use native.Mathlib.Omega.{arith}
 use lib.ListN.{length, take, drop, get_or, take-append-drop}
 use lib.Seq.{take-suc, take_all, drop-cons}
+use Rattle.std.specs.Prelude.{Option, Some, None}
 use Rattle.rules.specs.Lists.{◌▷◌}
 use Rattle.rules.specs.Ranges.{GoodNames}
 use Rattle.rules.specs.Tables.{Delegation, Asked, Table}
@@ -18,67 +19,66 @@ use Rattle.rules.specs.declared.Depth.{Depth}
 use Rattle.rules.proofs.ListsLaws.{at_one}
 use Rattle.rules.proofs.NamesLaws.{self_one}
 use Rattle.rules.proofs.AccessLaws.{Goes, chain→goes, goes→chain, chain_one, table_fixed}
-use Rattle.records.specs.Fields.{field, field_read}
+use Rattle.records.specs.Parsed.{Parsed, got, bad}
+use Rattle.records.specs.Fields.{field}
 use Rattle.records.specs.Many.{many}
 use Rattle.records.specs.DerivationBytes.{chain_number}
 use Rattle.records.specs.declared.faults.Fault.{Fault}
-use Rattle.records.specs.declared.fields.Field.{Field}
-use Rattle.records.specs.declared.fields.Field.TheVariants as as_field
+use Rattle.records.proofs.ParsedLaws.{got_or_bad}
 use Rattle.records.proofs.ManyLaws.{Left, left_on}
 use Rattle.table.specs.ReadTable.{table_at}
 use Rattle.sheet.proofs.FindsLaws.{own_key, leads_one}
 use Rattle.sheet.proofs.MeaningLaws.{index_spaces}
-use Rattle.matching.specs.Matching.{told, GivesTo, HandsOn, Gives, to, not_given, Hands, Held}
+use Rattle.matching.specs.Matching.{told, GivesTo, HandsOn, Gives, to, not_given, Hands}
+use Rattle.matching.specs.Held.{Held}
 use Rattle.matching.proofs.MatchingLaws.{gives_to, gives_none, hands_on, hands_none}
 use Rattle.matching.specs.declared.Given.{Given}
-use Rattle.matching.specs.declared.Given.TheVariants as as_given
 use Rattle.matching.specs.declared.Handed.{Handed}
-use Rattle.matching.specs.declared.Handed.TheVariants as the_handed
 use Rattle.checker.specs.Walks.{Chained, ChainTo, WalksAll, StepTo, Numbered, GoesOn}
 
 -- ---- one step
-module _ (s keys names accesses delegations : List ℕ) (held : Held s keys names accesses delegations) (sheet : List ℕ) (q : Asked Space) (j : ℕ) (r : Handed) (found : Hands (HandsOn (table_at s) sheet q j) r) (holder : Key) (a : ℕ) where
-  abbrev pub Steps : Given → Type 0
+module _ (s keys names accesses delegations : List ℕ) (held : Held s keys names accesses delegations) (sheet : List ℕ) (q : Asked Space) (j : ℕ) (r : Option Handed) (found : Hands (HandsOn (table_at s) sheet q j) r) (holder : Key) (a : ℕ) where
+  abbrev pub Steps : Option Given → Type 0
   Steps g = Gives (StepTo (table_at s) sheet q j holder a) g
 
   -- A step is one of the delegation that was found.
   as_handed : {k : Key} {b : ℕ} (w : StepTo (table_at s) sheet q j holder a k b) → HandsOn (table_at s) sheet q j w.name.space k w.depth
   as_handed w = record { path = w.name.path; writer = holder; writes = w.writes; leads = w.leads }
 
-  pub hands_nothing : r ≡ the_handed.Nothing → Steps as_given.Nothing
+  pub hands_nothing : r ≡ None → Steps None
   hands_nothing e = not_given (λ k b w. hands_none found e w.name.space k w.depth (as_handed w))
 
-  module _ (S : Space) (k : Key) (d : Depth) (e : r ≡ the_handed.On S k d) where
-    hands : HandsOn (table_at s) sheet q j S k d.0
+  module _ (h : Handed) (e : r ≡ Some h) where
+    hands : HandsOn (table_at s) sheet q j h.writer h.to h.depth.0
     hands = hands_on found e
 
-    pub writer_below : S.0 < length keys
+    pub writer_below : h.writer.0 < length keys
     writer_below = omega (arith, hands.writes.is_self.at.there, index_spaces (table_at s).names keys names held.index)
 
-    writer_self : IsSelf (table_at s).names.spaces S (record { 0 = get_or keys S.0 0 })
-    writer_self = own_key (table_at s).names keys names held.index S writer_below
+    writer_self : IsSelf (table_at s).names.spaces h.writer (record { 0 = get_or keys h.writer.0 0 })
+    writer_self = own_key (table_at s).names keys names held.index h.writer writer_below
 
-    same_writer : {m : Key} {b : ℕ} (w : StepTo (table_at s) sheet q j holder a m b) → w.name.space ≡ S
+    same_writer : {m : Key} {b : ℕ} (w : StepTo (table_at s) sheet q j holder a m b) → w.name.space ≡ h.writer
     same_writer w = ap (λ (x : Delegation). x.writer) (at_one w.writes.at hands.writes.at)
 
-    pub another_wrote : (get_or keys S.0 0 ≡ holder.0 → ⊥) → Steps as_given.Nothing
+    pub another_wrote : (get_or keys h.writer.0 0 ≡ holder.0 → ⊥) → Steps None
     another_wrote f =
         not_given (λ m b w. f (ap (λ (x : Key). x.0) (self_one writer_self (subst (λ (T : Space). IsSelf (table_at s).names.spaces T holder) (same_writer w) w.writes.is_self))))
 
-    pub no_depth_left : a ≡ 0 → Steps as_given.Nothing
+    pub no_depth_left : a ≡ 0 → Steps None
     no_depth_left z = not_given (λ m b w. omega (arith, z, w.step.some))
 
-    pub steps_on : get_or keys S.0 0 ≡ holder.0 → (b : Depth) → Step a d.0 b.0 → Steps (as_given.To k b)
-    steps_on h b st = to k b (record {
-      name = record { space = S; path = hands.path };
-      depth = d.0;
-      writes = subst (λ (x : Key). Writes (told (table_at s) sheet) (table_at s) q j x (record { space = S; path = hands.path }) d.0) is_holder hands.writes;
+    pub steps_on : get_or keys h.writer.0 0 ≡ holder.0 → (b : Depth) → Step a h.depth.0 b.0 → Steps (Some (record { to = h.to; depth = b }))
+    steps_on p b st = to (record { to = h.to; depth = b }) (record {
+      name = record { space = h.writer; path = hands.path };
+      depth = h.depth.0;
+      writes = subst (λ (x : Key). Writes (told (table_at s) sheet) (table_at s) q j x (record { space = h.writer; path = hands.path }) h.depth.0) is_holder hands.writes;
       step = st;
       leads = hands.leads;
     })
       where
         is_holder : hands.writer ≡ holder
-        is_holder = self_one hands.writes.is_self writer_self ∙ (λ i. record { 0 = h i })
+        is_holder = self_one hands.writes.is_self writer_self ∙ (λ i. record { 0 = p i })
 
 -- ---- how far a chain was walked
 module _ (t : Table) (sheet : List ℕ) (q : Asked Space) (s : List ℕ) where
@@ -149,26 +149,22 @@ module _ (t : Table) (good : GoodNames t.names) (sheet : List ℕ) (q : Asked Sp
   -- ---- the loop
   module _ (s : List ℕ) (from count : ℕ) (start : Key) (begun : ℕ) where
     module _ (at i : ℕ) (holder : Key) (d : ℕ) (o : Walking t sheet q s from count start begun at i holder d) where
-      pub walk_ends : (b : Depth) → b.0 ≡ d → count ≤ i → GoesOn t sheet q s from count start begun (as_given.To holder b)
-      walk_ends b e h a D n w =
-          to holder b (subst (λ (x : ℕ). ChainTo t sheet q a D holder x) (sym e) (subst (λ (c : List ℕ). ChainTo t sheet q a c holder d) (take_all i D (omega (arith, n.size))) (o.walked a D n w).reached))
+      pub walk_ends : (g : Given) → g.to ≡ holder → g.depth.0 ≡ d → count ≤ i → GoesOn t sheet q s from count start begun (Some g)
+      walk_ends g u e h a D n w =
+          to g (subst₂ (λ (m : Key) (x : ℕ). ChainTo t sheet q a D m x) (sym u) (sym e) (subst (λ (c : List ℕ). ChainTo t sheet q a c holder d) (take_all i D (omega (arith, n.size))) (o.walked a D n w).reached))
 
-      module _ (h : i < count) (r : Field) (found : r ≡ field_read (field 0 511 s at)) where
-        next_number : (D : List ℕ) (n : Numbered s from count D) → Left chain_number s D n.end i at → (mid : ℕ) × (r ≡ as_field.Value (get_or D i 0) mid) × Left chain_number s D n.end (i + 1) mid
-        next_number D n l = let w = left_on chain_number s D n.end i at 0 (omega (arith, n.size)) l in (w.0, found ∙ ap field_read w.1, w.2)
+      module _ (h : i < count) where
+        next_number : (D : List ℕ) (n : Numbered s from count D) → Left chain_number s D n.end i at → (mid : ℕ) × (field 0 511 s at ≡ got (get_or D i 0) mid) × Left chain_number s D n.end (i + 1) mid
+        next_number D n l = left_on chain_number s D n.end i at 0 (omega (arith, n.size)) l
 
-        pub no_next : (f : Fault) → r ≡ as_field.Fault f → GoesOn t sheet q s from count start begun as_given.Nothing
-        no_next f g a D n w =
-            let x = next_number D n (o.walked a D n w).left in
-            let e : as_field.Value (get_or D i 0) x.0 ≡ as_field.Fault f = sym x.1 ∙ g in
-            let z : ◌≡◌ {A = ℕ} 0 1 = cc in
-            absurd (omega arith)
+        pub no_next : (f : Fault) → field 0 511 s at ≡ bad f → GoesOn t sheet q s from count start begun None
+        no_next f g a D n w = absurd (got_or_bad (next_number D n (o.walked a D n w).left).1 g)
 
-        module _ (v next₂ : ℕ) (g : r ≡ as_field.Value v next₂) where
+        module _ (v next₂ : ℕ) (g : field 0 511 s at ≡ got v next₂) where
           is_next : (a : ℕ) (D : List ℕ) (n : Numbered s from count D) → ChainTo t sheet q a [] start begun → (get_or D i 0 ≡ v) × Left chain_number s D n.end (i + 1) next₂
           is_next a D n w =
               let x = next_number D n (o.walked a D n w).left in
-              let e : as_field.Value (get_or D i 0) x.0 ≡ as_field.Value v next₂ = sym x.1 ∙ g in
+              let e : ◌≡◌ {A = Parsed ℕ} (got (get_or D i 0) x.0) (got v next₂) = sym x.1 ∙ g in
               let b : get_or D i 0 ≡ v = cc e in
               let c : x.0 ≡ next₂ = cc e in
               (b, subst (Left chain_number s D n.end (i + 1)) c x.2)
@@ -183,19 +179,19 @@ module _ (t : Table) (good : GoodNames t.names) (sheet : List ℕ) (q : Asked Sp
           must_step a D n w k b u =
               goes_through a (take i D) v (drop (suc i) D) (o.walked a D n w).reached (subst (λ (c : List ℕ). ChainTo t sheet q a c k b) (apart a D n w) u)
 
-          pub not_written : length t.delegations ≤ v → GoesOn t sheet q s from count start begun as_given.Nothing
+          pub not_written : length t.delegations ≤ v → GoesOn t sheet q s from count start begun None
           not_written e a D n w = not_given (λ k b u. let z = (must_step a D n w k b u).2.writes.at.there in omega arith)
 
-          module _ (x : Given) (one : Gives (StepTo t sheet q v holder d) x) where
-            pub stops_here : x ≡ as_given.Nothing → GoesOn t sheet q s from count start begun as_given.Nothing
+          module _ (x : Option Given) (one : Gives (StepTo t sheet q v holder d) x) where
+            pub stops_here : x ≡ None → GoesOn t sheet q s from count start begun None
             stops_here e a D n w = not_given (λ k b u. let z = must_step a D n w k b u in gives_none one e z.0 z.1 z.2)
 
-            pub walks_on : (k : Key) (b : Depth) → x ≡ as_given.To k b → Walking t sheet q s from count start begun next₂ (i + 1) k b.0
-            walks_on k b e = record {
+            pub walks_on : (k : Given) → x ≡ Some k → Walking t sheet q s from count start begun next₂ (i + 1) k.to k.depth.0
+            walks_on k e = record {
               most = omega arith;
               walked = λ a D n w. record {
                 left = (is_next a D n w).1;
-                reached = subst (λ (c : List ℕ). ChainTo t sheet q a c k b.0) (sym (longer a D n w)) (chain_longer a (take i D) v (o.walked a D n w).reached (gives_to one e));
+                reached = subst (λ (c : List ℕ). ChainTo t sheet q a c k.to k.depth.0) (sym (longer a D n w)) (chain_longer a (take i D) v (o.walked a D n w).reached (gives_to one e));
               };
             }
               where
@@ -203,30 +199,27 @@ module _ (t : Table) (good : GoodNames t.names) (sheet : List ℕ) (q : Asked Sp
                 longer a D n w = ap (λ (m : ℕ). take m D) (add-one i) ∙ take-suc D i 0 (omega (arith, n.size)) ∙ ap (λ (m : ℕ). take i D ▷ m) (is_next a D n w).0
 
   -- ---- the whole chain
-  module _ (s : List ℕ) (from count : ℕ) (r : Field) (found : r ≡ field_read (field 0 255 s from)) where
-    pub no_first : (f : Fault) → r ≡ as_field.Fault f → WalksAll t sheet q s from count as_given.Nothing
-    no_first f g a D n =
-        let e : as_field.Value a n.middle ≡ as_field.Fault f = sym (found ∙ ap field_read n.first) ∙ g in
-        let z : ◌≡◌ {A = ℕ} 0 1 = cc in
-        absurd (omega arith)
+  module _ (s : List ℕ) (from count : ℕ) where
+    pub no_first : (f : Fault) → field 0 255 s from ≡ bad f → WalksAll t sheet q s from count None
+    no_first f g a D n = absurd (got_or_bad n.first g)
 
-    module _ (v next₂ : ℕ) (g : r ≡ as_field.Value v next₂) where
+    module _ (v next₂ : ℕ) (g : field 0 255 s from ≡ got v next₂) where
       is_first : (a : ℕ) (D : List ℕ) → Chained s from count a D → (a ≡ v) × Numbered s next₂ count D
       is_first a D n =
-          let e : as_field.Value a n.middle ≡ as_field.Value v next₂ = sym (found ∙ ap field_read n.first) ∙ g in
+          let e : ◌≡◌ {A = Parsed ℕ} (got a n.middle) (got v next₂) = sym n.first ∙ g in
           let b : a ≡ v = cc e in
           let c : n.middle ≡ next₂ = cc e in
           (b, record { end = n.end; reads = ap (λ (m : ℕ). many chain_number count [] s m) (sym c) ∙ n.others; size = n.size })
 
-      pub not_listed : length t.accesses ≤ v → WalksAll t sheet q s from count as_given.Nothing
+      pub not_listed : length t.accesses ≤ v → WalksAll t sheet q s from count None
       not_listed h a D n = not_given (λ k b w. let z = (begun_by a D k b w).2.lists.at.there in omega (arith, z, (is_first a D n).0))
 
-      module _ (x : Given) (one : Gives (GivesTo t sheet q v) x) where
-        pub gives_nobody : x ≡ as_given.Nothing → WalksAll t sheet q s from count as_given.Nothing
+      module _ (x : Option Given) (one : Gives (GivesTo t sheet q v) x) where
+        pub gives_nobody : x ≡ None → WalksAll t sheet q s from count None
         gives_nobody e a D n =
             not_given (λ k b w. let z = begun_by a D k b w in gives_none one e z.0 z.1 (subst (λ (m : ℕ). GivesTo t sheet q m z.0 z.1) (is_first a D n).0 z.2))
 
-        pub walks_from : (k : Key) (b : Depth) → x ≡ as_given.To k b → (y : Given) → GoesOn t sheet q s next₂ count k b.0 y → WalksAll t sheet q s from count y
-        walks_from k b e y w a D n =
+        pub walks_from : (k : Given) → x ≡ Some k → (y : Option Given) → GoesOn t sheet q s next₂ count k.to k.depth.0 y → WalksAll t sheet q s from count y
+        walks_from k e y w a D n =
             let z = is_first a D n in
-            w a D z.1 (subst (λ (m : ℕ). ChainTo t sheet q m [] k b.0) (sym z.0) (chain_begins v (gives_to one e)))
+            w a D z.1 (subst (λ (m : ℕ). ChainTo t sheet q m [] k.to k.depth.0) (sym z.0) (chain_begins v (gives_to one e)))

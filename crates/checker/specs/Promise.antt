@@ -1,5 +1,5 @@
 -- What the checker promises, over all byte strings.
-use Rattle.std.specs.Prelude.{◌≡◌, List, ℕ, length}
+use Rattle.std.specs.Prelude.{◌≡◌, Option, List, ℕ, length}
 use Rattle.std.proofs.Math.Option.{none, some}
 use Rattle.rules.specs.Tables.{Target, Asked, Request, Table}
 use Rattle.rules.specs.Derivations.{Holds}
@@ -32,6 +32,6 @@ pub data Checks (table request derivation : List ℕ) : Checked → Type 0 where
 
 -- ---- as code answers
 -- A derivation that the bytes hold, with these parts, holds at the depth; or at none.
-abbrev pub HoldsAs : Table → Target → Asked Space → List ℕ → Parts → Given → Type 0
+abbrev pub HoldsAs : Table → Target → Asked Space → List ℕ → Parts → Option Given → Type 0
 HoldsAs t subject q s parts r =
     (v : Laid) → read_derivation s ≡ some v → parts_of v ≡ parts → Gives (λ (k : Key) (d : ℕ). Holds t (record { subject = subject; asked = q }) v.derivation d) r

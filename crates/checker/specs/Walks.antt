@@ -1,5 +1,5 @@
 -- What the checker's steps find.
-use Rattle.std.specs.Prelude.{◌≡◌, Bool, true, false, List, [], ℕ, ◌-◌, ◌<◌, length}
+use Rattle.std.specs.Prelude.{◌≡◌, Option, Bool, true, false, List, [], ℕ, ◌-◌, ◌<◌, length}
 use Rattle.rules.specs.Lists.{NoneTwice}
 use Rattle.rules.specs.Ranges.{most_accesses}
 use Rattle.rules.specs.Tables.{Asked, NameTable, Table}
@@ -50,7 +50,7 @@ pub record ChainTo (t : Table) (sheet : List ℕ) (q : Asked Space) (access : �
   pub chain : Chain (setting_by (told t sheet) t q) access delegations last d
   pub leads : told t sheet last.space last.path k
 
-abbrev pub WalksAll : Table → List ℕ → Asked Space → List ℕ → ℕ → ℕ → Given → Type 0
+abbrev pub WalksAll : Table → List ℕ → Asked Space → List ℕ → ℕ → ℕ → Option Given → Type 0
 WalksAll t sheet q s from count r = (access : ℕ) (delegations : List ℕ) → Chained s from count access delegations → Gives (ChainTo t sheet q access delegations) r
 
 -- One step of a chain, from the holder of a key with its depth: delegation number `j` is by that holder, and its delegatee's name leads to the key.
@@ -68,6 +68,6 @@ pub record Numbered (s : List ℕ) (from count : ℕ) (delegations : List ℕ) :
   pub size : length delegations ≡ count
 
 -- From a chain's first record on, which gave the holder its depth.
-abbrev pub GoesOn : Table → List ℕ → Asked Space → List ℕ → ℕ → ℕ → Key → ℕ → Given → Type 0
+abbrev pub GoesOn : Table → List ℕ → Asked Space → List ℕ → ℕ → ℕ → Key → ℕ → Option Given → Type 0
 GoesOn t sheet q s from count holder d r =
     (access : ℕ) (delegations : List ℕ) → Numbered s from count delegations → ChainTo t sheet q access [] holder d → Gives (ChainTo t sheet q access delegations) r

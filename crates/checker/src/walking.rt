@@ -1,152 +1,78 @@
 // The chain: an access record, then delegations, each by the one whom the record before is to.
 ghost use Rattle.std.specs.Prelude.{◌<◌, ◌≤◌, length};
 ghost use Rattle.table.specs.ReadTable.{table_at};
-ghost use Rattle.matching.specs.Matching.{Held, Gives, asked_of};
+ghost use Rattle.matching.specs.Matching.{Gives, asked_of};
 ghost use Rattle.checker.specs.Walks.{StepTo, GoesOn, WalksAll};
 
-use matching::{Given, Handed, match_access, match_delegation};
-use records::fields::{Field, Use, read_field};
-use rules::{Depth, Key, Space};
+use matching::good::Good;
+use matching::{Asked, Given};
+use records::fields::read_field;
 
-// One step: delegation number `which`, if the holder of the key wrote it and the depth allows a step.
+// One step: delegation number `which`, if the holder wrote it and the holder's depth allows a step.
 fn walk_one(
-    table: &[u8],
-    keys: &[u32],
-    names: &[u32],
-    accesses: &[u16],
-    delegations: &[u16],
+    good: &Good<'_>,
     sheet: &[u32],
-    owner: Space,
-    wanted: Use,
+    asked: Asked,
     which: usize,
-    holder: Key,
-    depth: Depth,
-) -> Given
-    requires { Held table.now keys.now names.now accesses.now delegations.now × (length names.now ≤ length sheet.now) × (owner.0 < length keys.now)
-        × (which < length (table_at table.now).delegations) }
-    ensures { Gives (StepTo (table_at table.now) sheet.now (asked_of owner wanted) which holder depth.0) result }
+    holder: Given,
+) -> Option<Given>
+    requires { (length good.now.names.packed.now ≤ length sheet.now) × (asked.owner.0 < length good.now.names.keys.now) × (which < length good.now.delegations.now) }
+    ensures { Gives (StepTo (table_at good.now.names.table.now) sheet.now (asked_of asked.owner asked.wanted) which holder.to holder.depth.0) result }
 {
-    let Handed::On(writer, key, by) = match_delegation(
-        table,
-        keys,
-        names,
-        accesses,
-        delegations,
-        sheet,
-        owner,
-        wanted,
-        which,
-    ) else {
-        return Given::Nothing;
-    };
-    if keys[writer.0] != holder.0 || depth.number() == 0 {
-        return Given::Nothing;
+    let handed = good.match_delegation(sheet, asked, which)?;
+    if good.names.keys[handed.writer.0] != holder.to.0 || holder.depth.number() == 0 {
+        return None;
     }
-    Given::To(key, depth.step(by))
+    Some(Given {
+        to: handed.to,
+        depth: holder.depth.step(handed.depth),
+    })
 }
 
-// The delegations whose numbers stand from a place on, from the holder of a key with its depth.
+// The delegations whose numbers stand from a place on, from the first holder.
 fn walk_on(
-    table: &[u8],
-    keys: &[u32],
-    names: &[u32],
-    accesses: &[u16],
-    delegations: &[u16],
+    good: &Good<'_>,
     sheet: &[u32],
-    owner: Space,
-    wanted: Use,
+    asked: Asked,
     derivation: &[u8],
     from: usize,
     count: usize,
-    start: Key,
-    begun: Depth,
-) -> Given
-    requires { Held table.now keys.now names.now accesses.now delegations.now × (length names.now ≤ length sheet.now) × (owner.0 < length keys.now) }
-    ensures { GoesOn (table_at table.now) sheet.now (asked_of owner wanted) derivation.now from count start begun.0 result }
+    first: Given,
+) -> Option<Given>
+    requires { (length good.now.names.packed.now ≤ length sheet.now) × (asked.owner.0 < length good.now.names.keys.now) }
+    ensures { GoesOn (table_at good.now.names.table.now) sheet.now (asked_of asked.owner asked.wanted) derivation.now from count first.to first.depth.0 result }
 {
     let mut at = from;
-    let mut holder = start;
-    let mut depth = begun;
+    let mut holder = first;
     for _ in 0..count {
-        let Field::Value(value, next) = read_field(derivation, at, 0, 511) else {
-            return Given::Nothing;
-        };
+        let (value, next) = read_field(derivation, at, 0, 511).ok()?;
         let which = value as usize;
-        if which >= delegations.len() {
-            return Given::Nothing;
+        if which >= good.delegations.len() {
+            return None;
         }
-        let Given::To(key, left) = walk_one(
-            table,
-            keys,
-            names,
-            accesses,
-            delegations,
-            sheet,
-            owner,
-            wanted,
-            which,
-            holder,
-            depth,
-        ) else {
-            return Given::Nothing;
-        };
-        holder = key;
-        depth = left;
+        holder = walk_one(good, sheet, asked, which, holder)?;
         at = next;
     }
-    Given::To(holder, depth)
+    Some(holder)
 }
 
 // The chain whose numbers stand from a place on: the key that its last name leads to, with the depth.
 pub fn walk(
-    table: &[u8],
-    keys: &[u32],
-    names: &[u32],
-    accesses: &[u16],
-    delegations: &[u16],
+    good: &Good<'_>,
     sheet: &[u32],
-    owner: Space,
-    wanted: Use,
+    asked: Asked,
     derivation: &[u8],
     from: usize,
     count: usize,
-) -> Given
-    requires { Held table.now keys.now names.now accesses.now delegations.now × (length names.now ≤ length sheet.now) × (owner.0 < length keys.now) }
-    ensures { WalksAll (table_at table.now) sheet.now (asked_of owner wanted) derivation.now from count result }
+) -> Option<Given>
+    requires { (length good.now.names.packed.now ≤ length sheet.now) × (asked.owner.0 < length good.now.names.keys.now) }
+    ensures { WalksAll (table_at good.now.names.table.now) sheet.now (asked_of asked.owner asked.wanted) derivation.now from count result }
 {
-    let Field::Value(value, next) = read_field(derivation, from, 0, 255) else {
-        return Given::Nothing;
-    };
+    let (value, next) = read_field(derivation, from, 0, 255).ok()?;
     let which = value as usize;
-    if which >= accesses.len() {
-        return Given::Nothing;
+    if which >= good.accesses.len() {
+        return None;
     }
-    let Given::To(key, depth) = match_access(
-        table,
-        keys,
-        names,
-        accesses,
-        delegations,
-        sheet,
-        owner,
-        wanted,
-        which,
-    ) else {
-        return Given::Nothing;
-    };
-    walk_on(
-        table,
-        keys,
-        names,
-        accesses,
-        delegations,
-        sheet,
-        owner,
-        wanted,
-        derivation,
-        next,
-        count,
-        key,
-        depth,
-    )
+    let first = good.match_access(sheet, asked, which)?;
+    walk_on(good, sheet, asked, derivation, next, count, first)
 }

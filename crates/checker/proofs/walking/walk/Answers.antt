@@ -1,13 +1,22 @@
 -- `walk` takes the access record, and goes on from the one whom it is to.
+use mathlib.Core.Path.{refl}
+use Rattle.records.proofs.ParsedLaws.{same_ok_got, same_ok_bad}
 use Rattle.matching.proofs.MatchingLaws.{accesses_past}
-use Rattle.checker.proofs.WalkingLaws.{not_listed, gives_nobody, walks_from}
+use Rattle.checker.proofs.WalkingLaws.{no_first, not_listed, gives_nobody, walks_from}
 use Rattle.checker.proofs.walking.walk.Goals as goal
 
-pub returns-then-which-accesses : goal.returns-then-which-accesses
-returns-then-which-accesses c = not_listed _ c.requires.0.good.names _ _ _ _ _ _ c.read_field.ensures _ _ c.in-Value.is (accesses_past _ _ _ _ _ c.requires.0 _ c.if-which-accesses.true)
+pub returns-in_err-value : goal.returns-in_err-value
+returns-in_err-value c =
+    let e = same_ok_bad _ c.read_field.ensures c.in_err-value.ensures.value in
+    rw c.from_residual.ensures (no_first _ c.args.good.now.held.good.names _ _ _ _ _ _ e.1)
 
-pub returns-in_default-match_access : goal.returns-in_default-match_access
-returns-in_default-match_access c = gives_nobody _ c.requires.0.good.names _ _ _ _ _ _ c.read_field.ensures _ _ c.in-Value.is _ c.match_access.ensures c.in_default-match_access.is
+pub returns-then-which-good : goal.returns-then-which-good
+returns-then-which-good c =
+    not_listed _ c.args.good.now.held.good.names _ _ _ _ _ _ _ (same_ok_got _ c.read_field.ensures c.in_ok-value.ensures.value) (accesses_past _ _ _ _ _ c.args.good.now.held _ c.if-which-good.true)
+
+pub returns-in_err-first : goal.returns-in_err-first
+returns-in_err-first c =
+    rw c.from_residual-in_err-first.ensures (gives_nobody _ c.args.good.now.held.good.names _ _ _ _ _ _ _ (same_ok_got _ c.read_field.ensures c.in_ok-value.ensures.value) _ c.in_err-first.ensures refl)
 
 pub returns : goal.returns
-returns c = walks_from _ c.requires.0.good.names _ _ _ _ _ _ c.read_field.ensures _ _ c.in-Value.is _ c.match_access.ensures _ _ c.in-To.is _ c.walk_on.ensures
+returns c = walks_from _ c.args.good.now.held.good.names _ _ _ _ _ _ _ (same_ok_got _ c.read_field.ensures c.in_ok-value.ensures.value) _ c.in_ok-first.ensures _ refl _ c.walk_on.ensures
