@@ -3,10 +3,9 @@ ghost use Rattle.records.specs.KeyRecords.{key_access_of};
 ghost use Rattle.translation.specs.Kinds.{access_kind, access_laws};
 
 use crate::sections::KeyRecord;
-use records::accesses::{AccessRead, read_access};
+use matching::good::Good;
 use records::keys::{KeyAccess, write_key_access};
 use rules::Key;
-use sheet::following::{Followed, follow_name};
 
 impl KeyRecord for KeyAccess {
     ghost kind = { access_kind };
@@ -16,28 +15,15 @@ impl KeyRecord for KeyAccess {
     ghost laws = { access_laws };
 
     // What access record number `i` becomes, unless its path has no meaning.
-    fn keyed(
-        table: &[u8],
-        keys: &[u32],
-        names: &[u32],
-        accesses: &[u16],
-        delegations: &[u16],
-        sheet: &[u32],
-        i: usize,
-    ) -> Option<KeyAccess> {
-        let AccessRead::Access(access, _) = read_access(&table[accesses[i] as usize..], keys.len())
-        else {
-            return None;
-        };
-        match follow_name(keys, names, sheet, access.owner, access.path) {
-            Followed::Key(subject) => Some(KeyAccess {
-                owner: Key(keys[access.owner.0]),
-                wanted: access.wanted,
-                subject,
-                depth: access.depth,
-            }),
-            Followed::Nothing => None,
-        }
+    fn keyed(good: &Good<'_>, sheet: &[u32], i: usize) -> Option<KeyAccess> {
+        let access = good.access(i);
+        let subject = good.names.follow_name(sheet, access.owner, access.path)?;
+        Some(KeyAccess {
+            owner: Key(good.names.keys[access.owner.0]),
+            wanted: access.wanted,
+            subject,
+            depth: access.depth,
+        })
     }
 
     fn write(self, out: &mut [u8]) -> usize {

@@ -4,4 +4,4 @@ use Rattle.translation.proofs.KeyTableLaws.{key_table_fits}
 use Rattle.translation.proofs.translate_good.Goals as goal
 
 pub write_key_table-requires : goal.write_key_table-requires
-write_key_table-requires c = (record { held = c.requires.1; room = omega (arith, c.requires.0.few_bindings); exact = c.fill.ensures.exact }, key_table_fits _ c.requires.1.good _ c.requires.2)
+write_key_table-requires c = (record { room = omega (arith, c.args.good.now.names.known.few_bindings); exact = c.fill.ensures.exact }, key_table_fits _ c.args.good.now.held.good _ c.requires)
