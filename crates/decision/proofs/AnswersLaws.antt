@@ -1,10 +1,10 @@
 -- The decision's answers to a request, over a good table and over any bytes.
 use mathlib.Core.Path.{◌≡◌, sym, ◌∙◌, ap, subst}
-use mathlib.Core.Logic.{◌⊎◌}
+use mathlib.Core.Logic.{◌⊎◌, inl, inr}
 use mathlib.Core.List.{List}
 use mathlib.Core.Option.{some}
 use Rattle.std.specs.Prelude.{Some, None, Ok, Err}
-use Prim.Native.Nat.{ℕ, ◌<◌}
+use Prim.Native.Nat.{ℕ, ◌<◌, ◌≤◌}
 use lib.ListN.{length}
 use Rattle.rules.specs.Tables.{Table}
 use Rattle.wire.specs.Number.{Bytes}
@@ -21,15 +21,14 @@ use Rattle.matching.specs.Held.{Held}
 use Rattle.matching.specs.Opening.{Opens}
 use Rattle.matching.specs.declared.good.Good.{Good}
 use Rattle.matching.proofs.AskedLaws.{Asks, asks, asks_nothing}
-use Rattle.decision.specs.Promise.{sheet_size, DecidesGood, Decides}
+use Rattle.decision.specs.Promise.{Decided, sheet_size, DecidesGood, Decides}
 use Rattle.decision.specs.Promise as promise
 use Rattle.decision.specs.Deciding.{DecidesAs}
-use Rattle.decision.specs.declared.Decided.{Decided}
-use Rattle.decision.specs.declared.Decided.TheVariants as decided
+use Rattle.decision.specs.declared.Refusal.TheVariants as refusal
 
 -- ---- before there is room
 module _ (s keys names accesses delegations : List ℕ) (held : Held s keys names accesses delegations) (request sheet₀ derivation₀ : List ℕ) where
-  pub bad_request_lem : None ≡ held_as request_value (read_request (length keys) request) → DecidesGood (table_at s) request sheet₀ derivation₀ decided.BadRequest sheet₀ derivation₀
+  pub bad_request_lem : None ≡ held_as request_value (read_request (length keys) request) → DecidesGood (table_at s) request sheet₀ derivation₀ (Err refusal.Request) sheet₀ derivation₀
   bad_request_lem e = promise.bad_request (asks_nothing s keys names accesses delegations held request e)
 
   module _ (bytes : Bytes request) (wish : RequestValue) (e : Some wish ≡ held_as request_value (read_request (length keys) request)) where
@@ -39,8 +38,9 @@ module _ (s keys names accesses delegations : List ℕ) (held : Held s keys name
     pub wish_fits : FittingTarget (length keys) wish.subject × (wish.owner.0 < length keys)
     wish_fits = (is.subject, is.owner)
 
-    pub no_room : (length sheet₀ < sheet_size) ⊎ (length derivation₀ < most_derivation) → DecidesGood (table_at s) request sheet₀ derivation₀ decided.Room sheet₀ derivation₀
-    no_room h = promise.room is.read h
+    pub no_room : (length sheet₀ < sheet_size) ⊎ ((sheet_size ≤ length sheet₀) × (length derivation₀ < most_derivation)) → DecidesGood (table_at s) request sheet₀ derivation₀ (Err refusal.Room) sheet₀ derivation₀
+    no_room (inl h) = promise.room is.read (inl h)
+    no_room (inr h) = promise.room is.read (inr h.1)
 
     pub decided_so : (a : Decided) (sheet derivation : List ℕ) → DecidesAs (table_at s) (target_of wish.subject) (asked_of wish.owner wish.wanted) sheet₀ derivation₀ a sheet derivation
         → DecidesGood (table_at s) request sheet₀ derivation₀ a sheet derivation
@@ -48,7 +48,7 @@ module _ (s keys names accesses delegations : List ℕ) (held : Held s keys name
 
 -- ---- over any bytes
 module _ (s request sheet₀ derivation₀ : List ℕ) where
-  pub table_bad : (f : Fault) → Opens s (Err f) → Decides s request sheet₀ derivation₀ (decided.BadTable f) sheet₀ derivation₀
+  pub table_bad : (f : Fault) → Opens s (Err f) → Decides s request sheet₀ derivation₀ (Err (refusal.Table f)) sheet₀ derivation₀
   table_bad f e = promise.bad_table e
 
   pub table_good : (g : Good) → Opens s (Ok g) → (a : Decided) (sheet derivation : List ℕ) → DecidesGood (table_at g.names.table.now) request sheet₀ derivation₀ a sheet derivation

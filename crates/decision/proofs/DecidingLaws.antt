@@ -6,7 +6,7 @@ use Prim.Native.Nat.{ℕ, ◌-◌, ◌<◌, ◌≤◌}
 use native.Mathlib.Omega.{arith}
 use lib.ListN.{length, take, drop, length-drop}
 use lib.Seq.{length-take-le, take_all}
-use Rattle.std.specs.Prelude.{Option, Some, None}
+use Rattle.std.specs.Prelude.{Option, Some, None, Ok, Err}
 use Rattle.rules.specs.Lists.{keep}
 use Rattle.rules.specs.Tables.{Path, Target, to_name, Asked, Request, Table}
 use Rattle.rules.specs.Depths.{top}
@@ -33,11 +33,10 @@ use Rattle.marking.specs.Needed.{Listed}
 use Rattle.decision.specs.Settling.{SettlesAt}
 use Rattle.decision.specs.Showing.{AllWritten}
 use Rattle.decision.specs.Writing.{WritesDerivation, bytes, overrun}
-use Rattle.decision.specs.Promise.{sheet_size, Ready, DecidesGood}
+use Rattle.decision.specs.Promise.{Decided, sheet_size, Ready, DecidesGood}
 use Rattle.decision.specs.Promise as promise
 use Rattle.decision.specs.Deciding.{Shows, answer_of, DecidesAs}
-use Rattle.decision.specs.declared.Decided.{Decided}
-use Rattle.decision.specs.declared.Decided.TheVariants as decided
+use Rattle.decision.specs.declared.Refusal.TheVariants as refusal
 use Rattle.decision.specs.declared.settling.Settled.{Settled}
 use Rattle.decision.proofs.DerivingLaws.{shown_holds, shown_none_idle}
 use Rattle.decision.proofs.ListedLaws.{all_below, keep_few, ordered_below, chain_listed, chain_written, chain_all_written}
@@ -99,14 +98,14 @@ module _ (t : Table) (good : Good t) (sheet₀ sheet order : List ℕ) (n : ℕ)
     ready s e = record { accepted = e; room_for_sheet = room_of_sheet; room_for_derivation = room; filled = record { size = size; exact = filled.exact; past = filled.past } }
 
     module _ (meant : Option Key) (finds : Finds (TargetLeads t.names (InSheet t.names sheet) subject) meant) where
-      pub no_name : meant ≡ None → DecidesAs t subject q sheet₀ derivation₀ decided.Unnamed sheet derivation₀
+      pub no_name : meant ≡ None → DecidesAs t subject q sheet₀ derivation₀ (Err refusal.Unnamed) sheet derivation₀
       no_name e s read = promise.unnamed (ready s read) (λ k m. finds_none finds e k ((exact_leads t.names good.names sheet filled.exact subject k).1 m))
 
       module _ (key : Key) (e : meant ≡ Some key) (chain : List ℕ) where
         means : TargetMeans t.names subject key
         means = (exact_leads t.names good.names sheet filled.exact subject key).0 (finds_key finds e)
 
-        pub no_access : Has (setting_by (told t sheet) t q) key verdict.denied → DecidesAs t subject q sheet₀ derivation₀ decided.Denied sheet derivation₀
+        pub no_access : Has (setting_by (told t sheet) t q) key verdict.denied → DecidesAs t subject q sheet₀ derivation₀ (Err refusal.Denied) sheet derivation₀
         no_access h s read = promise.denied (ready s read) means (has_means q h)
 
         module _ (r : Settled) (settles : SettlesAt t sheet q key chain r) (full : length chain ≡ top) (derivation : List ℕ) (w : Option ℕ)
@@ -155,7 +154,7 @@ module _ (t : Table) (good : Good t) (sheet₀ sheet order : List ℕ) (n : ℕ)
               go : (w : Option ℕ) (after : List ℕ) → WritesDerivation shown derivation₀ after w → DecidesGood t s sheet₀ derivation₀ (answer_of r.depth w) sheet after
               go (Some m) after (bytes fits same) =
                   let l = derivation_reads shown (good_shown h) fits in
-                  subst (λ (x : List ℕ). DecidesGood t s sheet₀ derivation₀ (decided.Granted r.depth (length (derivation_bytes shown))) sheet x) (sym same)
+                  subst (λ (x : List ℕ). DecidesGood t s sheet₀ derivation₀ (Ok (record { depth = r.depth; length = length (derivation_bytes shown) })) sheet x) (sym same)
                   (promise.granted (ready s read) means has (record { shown = comes; laid = l.0; read = l.1; same = l.2 }))
               go None after (overrun long same) =
-                  subst (λ (x : List ℕ). DecidesGood t s sheet₀ derivation₀ decided.Overrun sheet x) (sym same) (promise.overrun (ready s read) means has comes long)
+                  subst (λ (x : List ℕ). DecidesGood t s sheet₀ derivation₀ (Err refusal.Overrun) sheet x) (sym same) (promise.overrun (ready s read) means has comes long)

@@ -5,6 +5,7 @@ pub mod ShowingLaws
 pub mod DerivingLaws
 pub mod WritingLaws
 pub mod ListedLaws
+pub mod RefusedLaws
 pub mod DecidingLaws
 pub mod AnswersLaws
 pub mod Theorems

@@ -6,6 +6,7 @@ use mathlib.Core.Option.{none}
 use Prim.Native.Nat.{ℕ, zero, suc, ◌<◌}
 use native.Mathlib.Omega.{arith}
 use lib.ListN.{length, drop}
+use Rattle.std.specs.Prelude.{Ok, Err}
 use Rattle.rules.specs.Tables.{Request, Table}
 use Rattle.rules.specs.Ranges.{Good}
 use Rattle.rules.specs.Names.{TargetMeans}
@@ -25,9 +26,8 @@ use Rattle.records.specs.declared.faults.Fault.{Fault}
 use Rattle.records.proofs.ParsedLaws.{got_or_bad, some_or_none, got_one, bad_one, some_one}
 use Rattle.table.specs.ReadTable.{Laid as LaidTable, table_of}
 use Rattle.table.proofs.Theorems.{table_form}
-use Rattle.decision.specs.Promise.{sheet_size, Ready, DecidesGood, bad_request, room, unnamed, denied, granted, overrun, Decides, bad_table, good_table, Alike, equal, another_shown, first_fits, second_fits}
-use Rattle.decision.specs.declared.Decided.{Decided}
-use Rattle.decision.specs.declared.Decided.TheVariants as decided
+use Rattle.decision.specs.Promise.{Decided, sheet_size, Ready, DecidesGood, bad_request, room, unnamed, denied, granted, overrun, Decides, bad_table, good_table, Alike, equal, another_shown, first_fits, second_fits}
+use Rattle.decision.specs.declared.Refusal.TheVariants as refusal
 
 -- Rows of one length that agree at their first entries and past them are one.
 one_row : (n : ℕ) (a b : List ℕ) → length a ≡ length b → ((i : ℕ) → i < n → entry a i ≡ entry b i) → drop n a ≡ drop n b → a ≡ b
@@ -76,15 +76,15 @@ module _ (t : Table) (good : Good t) (request sheet₀ derivation₀ : List ℕ)
   same_sheet : {r r' : Request} {x y v : List ℕ} (a : Decided) → IsReady r x → IsReady r' y → Alike a x v a y v
   same_sheet {x = x} {v = v} a p q = subst (λ (z : List ℕ). Alike a x v a z v) (one_sheet p q) equal
 
-  another : {d e : Depth} {n m : ℕ} {x y v w : List ℕ} → d ≡ e → x ≡ y → Alike (decided.Granted d n) x v (decided.Granted e m) y w
+  another : {d e : Depth} {n m : ℕ} {x y v w : List ℕ} → d ≡ e → x ≡ y → Alike (Ok (record { depth = d; length = n })) x v (Ok (record { depth = e; length = m })) y w
   another {d} {n = n} {m = m} {x = x} {y = y} {v = v} {w = w} p q =
-      subst (λ (c : Depth). Alike (decided.Granted d n) x v (decided.Granted c m) y w) p (subst (λ (z : List ℕ). Alike (decided.Granted d n) x v (decided.Granted d m) z w) q another_shown)
+      subst (λ (c : Depth). Alike (Ok (record { depth = d; length = n })) x v (Ok (record { depth = c; length = m })) y w) p (subst (λ (z : List ℕ). Alike (Ok (record { depth = d; length = n })) x v (Ok (record { depth = d; length = m })) z w) q another_shown)
 
-  fits_first : {d : Depth} {n : ℕ} {x y v w : List ℕ} → x ≡ y → Alike (decided.Granted d n) x v decided.Overrun y w
-  fits_first {d} {n} {x} {v = v} {w = w} q = subst (λ (z : List ℕ). Alike (decided.Granted d n) x v decided.Overrun z w) q first_fits
+  fits_first : {d : Depth} {n : ℕ} {x y v w : List ℕ} → x ≡ y → Alike (Ok (record { depth = d; length = n })) x v (Err refusal.Overrun) y w
+  fits_first {d} {n} {x} {v = v} {w = w} q = subst (λ (z : List ℕ). Alike (Ok (record { depth = d; length = n })) x v (Err refusal.Overrun) z w) q first_fits
 
-  fits_second : {d : Depth} {n : ℕ} {x y v w : List ℕ} → x ≡ y → Alike decided.Overrun x v (decided.Granted d n) y w
-  fits_second {d} {n} {x} {v = v} {w = w} q = subst (λ (z : List ℕ). Alike decided.Overrun x v (decided.Granted d n) z w) q second_fits
+  fits_second : {d : Depth} {n : ℕ} {x y v w : List ℕ} → x ≡ y → Alike (Err refusal.Overrun) x v (Ok (record { depth = d; length = n })) y w
+  fits_second {d} {n} {x} {v = v} {w = w} q = subst (λ (z : List ℕ). Alike (Err refusal.Overrun) x v (Ok (record { depth = d; length = n })) z w) q second_fits
 
   good_alike : {a b : Decided} {x y v w : List ℕ} → DecidesGood t request sheet₀ derivation₀ a x v → DecidesGood t request sheet₀ derivation₀ b y w → Alike a x v b y w
   good_alike (bad_request e) (bad_request e') = equal
@@ -101,14 +101,14 @@ module _ (t : Table) (good : Good t) (request sheet₀ derivation₀ : List ℕ)
   good_alike (room e h) (overrun p' m' h' x' l') = absurd (roomy p' h)
   good_alike (unnamed p f) (bad_request e') = absurd (unread p e')
   good_alike (unnamed p f) (room e' h') = absurd (roomy p h')
-  good_alike (unnamed p f) (unnamed p' f') = same_sheet decided.Unnamed p p'
+  good_alike (unnamed p f) (unnamed p' f') = same_sheet (Err refusal.Unnamed) p p'
   good_alike (unnamed p f) (denied {k = k} p' m' h') = absurd (meant k p p' f m')
   good_alike (unnamed p f) (granted {k = k} p' m' h' x') = absurd (meant k p p' f m')
   good_alike (unnamed p f) (overrun {k = k} p' m' h' x' l') = absurd (meant k p p' f m')
   good_alike (denied p m h) (bad_request e') = absurd (unread p e')
   good_alike (denied p m h) (room e' h') = absurd (roomy p h')
   good_alike (denied {k = k} p m h) (unnamed p' f') = absurd (meant k p' p f' m)
-  good_alike (denied p m h) (denied p' m' h') = same_sheet decided.Denied p p'
+  good_alike (denied p m h) (denied p' m' h') = same_sheet (Err refusal.Denied) p p'
   good_alike (denied p m h) (granted p' m' h' x') = absurd (either (one_verdict p p' m m' h h'))
   good_alike (denied p m h) (overrun p' m' h' x' l') = absurd (either (one_verdict p p' m m' h h'))
   good_alike (granted p m h x) (bad_request e') = absurd (unread p e')
@@ -122,12 +122,12 @@ module _ (t : Table) (good : Good t) (request sheet₀ derivation₀ : List ℕ)
   good_alike (overrun {k = k} p m h x l) (unnamed p' f') = absurd (meant k p' p f' m)
   good_alike (overrun p m h x l) (denied p' m' h') = absurd (either (one_verdict p' p m' m h' h))
   good_alike (overrun p m h x l) (granted p' m' h' x') = fits_second (one_sheet p p')
-  good_alike (overrun p m h x l) (overrun p' m' h' x' l') = same_sheet decided.Overrun p p'
+  good_alike (overrun p m h x l) (overrun p' m' h' x' l') = same_sheet (Err refusal.Overrun) p p'
 
 -- TWO ANSWERS THAT MEET THE PROMISE ARE ALIKE, with the sheet and the derivation after them.
 pub decision_one : (table request sheet₀ derivation₀ : List ℕ) → Bytes table → {a b : Decided} {x y v w : List ℕ} → Decides table request sheet₀ derivation₀ a x v
     → Decides table request sheet₀ derivation₀ b y w → Alike a x v b y w
-decision_one table request sheet₀ derivation₀ bytes (bad_table {f = f} e) (bad_table h) = subst (λ (z : Fault). Alike (decided.BadTable f) sheet₀ derivation₀ (decided.BadTable z) sheet₀ derivation₀) (bad_one e h) equal
+decision_one table request sheet₀ derivation₀ bytes (bad_table {f = f} e) (bad_table h) = subst (λ (z : Fault). Alike (Err (refusal.Table f)) sheet₀ derivation₀ (Err (refusal.Table z)) sheet₀ derivation₀) (bad_one e h) equal
 decision_one table request sheet₀ derivation₀ bytes (bad_table e) (good_table h y) = absurd (got_or_bad h e)
 decision_one table request sheet₀ derivation₀ bytes (good_table h x) (bad_table e) = absurd (got_or_bad h e)
 decision_one table request sheet₀ derivation₀ bytes {b = b} {y = y} {w = w} (good_table {l = l} {end = n} h x) (good_table g z) =

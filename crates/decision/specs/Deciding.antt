@@ -1,5 +1,5 @@
 -- What the steps of the decision find.
-use Rattle.std.specs.Prelude.{◌≡◌, Bool, List, ℕ, length, Option, Some, None}
+use Rattle.std.specs.Prelude.{◌≡◌, Bool, List, ℕ, length, Option, Some, None, Ok, Err}
 use Rattle.std.proofs.Math.Option.{some}
 use Rattle.rules.specs.Lists.{keep}
 use Rattle.rules.specs.Tables.{Target, Asked, Table}
@@ -9,9 +9,8 @@ use Rattle.records.specs.Requests.{read_request}
 use Rattle.marking.specs.Marks.{marked}
 use Rattle.decision.specs.Showing.{AllMarked}
 use Rattle.decision.specs.Writing.{WritesDerivation}
-use Rattle.decision.specs.Promise.{DecidesGood}
-use Rattle.decision.specs.declared.Decided.{Decided}
-use Rattle.decision.specs.declared.Decided.TheVariants as decided
+use Rattle.decision.specs.Promise.{Decided, DecidesGood}
+use Rattle.decision.specs.declared.Refusal.TheVariants as refusal
 
 -- Of the listed bindings `L` those that the chain and the subject need are written, with the chain.
 pub record Shows (t : Table) (subject : Target) (access : ℕ) (chain L before after : List ℕ) (r : Option ℕ) : Type 0 where
@@ -21,8 +20,8 @@ pub record Shows (t : Table) (subject : Target) (access : ℕ) (chain L before a
 
 -- The answer, by the depth that is settled and what was written.
 abbrev pub answer_of : Depth → Option ℕ → Decided
-answer_of d (Some n) = decided.Granted d n
-answer_of d None = decided.Overrun
+answer_of d (Some n) = Ok (record { depth = d; length = n })
+answer_of d None = Err refusal.Overrun
 
 -- Whatever bytes hold the request, this is the answer to them.
 abbrev pub DecidesAs : Table → Target → Asked Space → List ℕ → List ℕ → Decided → List ℕ → List ℕ → Type 0

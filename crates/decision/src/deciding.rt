@@ -12,10 +12,10 @@ ghost use Rattle.decision.specs.Showing.{AllWritten};
 ghost use Rattle.decision.specs.Promise.{sheet_size, DecidesGood};
 ghost use Rattle.decision.specs.Deciding.{Shows, DecidesAs};
 
-use crate::Decided;
 use crate::finding::find_chain;
 use crate::showing::mark_all;
 use crate::writing::{MOST_DERIVATION, write_shown};
+use crate::{Grant, Refusal};
 use matching::Asked;
 use matching::good::Good;
 use records::requests::read_request;
@@ -50,21 +50,22 @@ fn decide_roomy(
     asked: Asked,
     sheet: &mut [u32],
     derivation: &mut [u8],
-) -> Decided
+) -> Result<Grant, Refusal>
     requires { FittingTarget (length good.now.names.keys.now) subject × (asked.owner.0 < length good.now.names.keys.now) × (sheet_size ≤ length sheet.old) × (most_derivation ≤ length derivation.old) }
     ensures { DecidesAs (table_at good.now.names.table.now) (target_of subject) (asked_of asked.owner asked.wanted) sheet.old derivation.old result sheet.new derivation.new }
 {
     let mut order = [0; 256];
     let mut edges = [0; 512];
     let listed = good.names.fill(sheet, &mut order, &mut edges);
-    let Some(key) = good.names.follow_target(sheet, subject) else {
-        return Decided::Unnamed;
-    };
+    let key = good
+        .names
+        .follow_target(sheet, subject)
+        .ok_or(Refusal::Unnamed)?;
     let mut chain = [0; 15];
-    let Some(settled) = find_chain(good, sheet, asked, key, &mut edges, &mut chain) else {
-        return Decided::Denied;
-    };
-    let written = show(
+    let settled = find_chain(good, sheet, asked, key, &mut edges, &mut chain).ok_or(
+        Refusal::Denied,
+    )?;
+    let length = show(
         good,
         sheet,
         &mut order[..listed],
@@ -72,11 +73,12 @@ fn decide_roomy(
         settled.access,
         &chain[settled.first..],
         derivation,
-    );
-    match written {
-        Some(length) => Decided::Granted(settled.depth, length),
-        None => Decided::Overrun,
-    }
+    )
+    .ok_or(Refusal::Overrun)?;
+    Ok(Grant {
+        depth: settled.depth,
+        length,
+    })
 }
 
 // The answer over a table that was found good.
@@ -85,17 +87,12 @@ pub fn decide_good(
     request: &[u8],
     sheet: &mut [u32],
     derivation: &mut [u8],
-) -> Decided
+) -> Result<Grant, Refusal>
     ensures { DecidesGood (table_at good.now.names.table.now) request.now sheet.old derivation.old result sheet.new derivation.new }
 {
-    let Some(wish) = read_request(request, good.names.keys.len()) else {
-        return Decided::BadRequest;
-    };
-    if sheet.len() < SHEET_SIZE {
-        return Decided::Room;
-    }
-    if derivation.len() < MOST_DERIVATION {
-        return Decided::Room;
+    let wish = read_request(request, good.names.keys.len()).ok_or(Refusal::Request)?;
+    if sheet.len() < SHEET_SIZE || derivation.len() < MOST_DERIVATION {
+        return Err(Refusal::Room);
     }
     let asked = Asked {
         owner: wish.owner,

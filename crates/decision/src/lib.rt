@@ -15,12 +15,18 @@ pub mod settling;
 pub mod showing;
 pub mod writing;
 
-// Granted comes with the greatest depth and the derivation's length.
-#[derive(Clone, Copy)]
-pub enum Decided {
-    Granted(Depth, usize),
-    BadTable(Fault),
-    BadRequest,
+// What is granted: the greatest depth, with a derivation of that length.
+#[derive(Clone, Copy, PartialEq, Eq)]
+pub struct Grant {
+    pub depth: Depth,
+    pub length: usize,
+}
+
+// Why nothing is granted.
+#[derive(Clone, Copy, PartialEq, Eq)]
+pub enum Refusal {
+    Table(Fault),
+    Request,
     Room,
     Unnamed,
     Denied,
@@ -28,12 +34,15 @@ pub enum Decided {
 }
 
 // Decides the request by the table: fills the sheet, and writes the derivation of a grant.
-pub fn decide(table: &[u8], request: &[u8], sheet: &mut [u32], derivation: &mut [u8]) -> Decided
+pub fn decide(
+    table: &[u8],
+    request: &[u8],
+    sheet: &mut [u32],
+    derivation: &mut [u8],
+) -> Result<Grant, Refusal>
     ensures { Decides table.now request.now sheet.old derivation.old result sheet.new derivation.new }
 {
     let mut rows = Rows::new();
-    match rows.open(table) {
-        Ok(good) => decide_good(&good, request, sheet, derivation),
-        Err(fault) => Decided::BadTable(fault),
-    }
+    let good = rows.open(table).map_err(Refusal::Table)?;
+    decide_good(&good, request, sheet, derivation)
 }
