@@ -7,7 +7,7 @@ ghost use Rattle.matching.specs.Matching.{asked_of};
 ghost use Rattle.checker.specs.Walks.{Blank};
 ghost use Rattle.checker.specs.Promise.{HoldsAs, ChecksGood};
 
-use crate::Checked;
+use crate::Refusal;
 use crate::listing::enter_listed;
 use crate::walking::walk;
 use matching::good::Good;
@@ -15,6 +15,7 @@ use matching::{Asked, Given};
 use records::derivations::{Parts, read_derivation};
 use records::requests::read_request;
 use records::targets::Target;
+use rules::Depth;
 
 // The depth at which the derivation with these parts holds: the listed bindings are entered, and by them the chain leads to the subject's key.
 pub fn hold(
@@ -48,22 +49,18 @@ pub fn hold(
 }
 
 // The answer over a table that was found good.
-pub fn check_good(good: &Good<'_>, request: &[u8], derivation: &[u8]) -> Checked
+pub fn check_good(good: &Good<'_>, request: &[u8], derivation: &[u8]) -> Result<Depth, Refusal>
     ensures { ChecksGood (table_at good.now.names.table.now) request.now derivation.now result }
 {
-    let Some(wish) = read_request(request, good.names.keys.len()) else {
-        return Checked::BadRequest;
-    };
-    let Some(parts) = read_derivation(derivation) else {
-        return Checked::NotDerivation;
-    };
+    let wish = read_request(request, good.names.keys.len()).ok_or(Refusal::Request)?;
+    let parts = read_derivation(derivation).ok_or(Refusal::Derivation)?;
     let asked = Asked {
         owner: wish.owner,
         wanted: wish.wanted,
     };
     let mut sheet = [0; 256];
-    match hold(good, &mut sheet, wish.subject, asked, derivation, parts) {
-        Some(given) => Checked::Accepted(given.depth),
-        None => Checked::NotDerivation,
-    }
+    let given = hold(good, &mut sheet, wish.subject, asked, derivation, parts).ok_or(
+        Refusal::Derivation,
+    )?;
+    Ok(given.depth)
 }

@@ -12,20 +12,19 @@ pub mod holding;
 pub mod listing;
 pub mod walking;
 
-#[derive(Clone, Copy)]
-pub enum Checked {
-    Accepted(Depth),
-    BadTable(Fault),
-    BadRequest,
-    NotDerivation,
+// Why a derivation is not accepted.
+#[derive(Clone, Copy, PartialEq, Eq)]
+pub enum Refusal {
+    Table(Fault),
+    Request,
+    Derivation,
 }
 
-// Checks the derivation of a request against a table.
-pub fn check(table: &[u8], request: &[u8], derivation: &[u8]) -> Checked
+// Checks the derivation of a request against a table: the depth at which it holds.
+pub fn check(table: &[u8], request: &[u8], derivation: &[u8]) -> Result<Depth, Refusal>
     ensures { Checks table.now request.now derivation.now result }
 {
-    match Rows::new().open(table) {
-        Ok(good) => check_good(&good, request, derivation),
-        Err(fault) => Checked::BadTable(fault),
-    }
+    let mut rows = Rows::new();
+    let good = rows.open(table).map_err(Refusal::Table)?;
+    check_good(&good, request, derivation)
 }

@@ -1,3 +1,4 @@
 pub mod MatchingLaws
 pub mod HeldLaws
 pub mod AskedLaws
+pub mod OpenedLaws

@@ -19,10 +19,10 @@ pub mod sections;
 
 pub const MOST_KEY_TABLE: usize = 16384;
 
-#[derive(Clone, Copy)]
-pub enum Translated {
-    Done(usize),
-    BadTable(Fault),
+// Why a table is not translated.
+#[derive(Clone, Copy, PartialEq, Eq)]
+pub enum Refusal {
+    Table(Fault),
     Room,
 }
 
@@ -50,17 +50,14 @@ fn translate_good(good: &Good<'_>, out: &mut [u8]) -> usize
     write_key_table(good, &sheet, out)
 }
 
-// Translates a table to a key table, which it writes at the start of `out`.
-pub fn translate(table: &[u8], out: &mut [u8]) -> Translated
+// Translates a table to a key table, which it writes at the start of `out`, and returns how many bytes it takes.
+pub fn translate(table: &[u8], out: &mut [u8]) -> Result<usize, Refusal>
     ensures { Answers table.now out.old result out.new }
 {
-    match Rows::new().open(table) {
-        Err(fault) => Translated::BadTable(fault),
-        Ok(good) => {
-            if out.len() < MOST_KEY_TABLE {
-                return Translated::Room;
-            }
-            Translated::Done(translate_good(&good, out))
-        }
+    let mut rows = Rows::new();
+    let good = rows.open(table).map_err(Refusal::Table)?;
+    if out.len() < MOST_KEY_TABLE {
+        return Err(Refusal::Room);
     }
+    Ok(translate_good(&good, out))
 }
