@@ -4,7 +4,7 @@ use mathlib.Core.List.{List, []}
 use Prim.Native.Nat.{ℕ, suc, ◌+◌, ◌<◌, ◌≤◌}
 use native.Mathlib.Omega.{arith}
 use native.Mathlib.Decide.{ℕ_discrete}
-use lib.ListN.{length, take, set, length-take}
+use lib.ListN.{length, set}
 use lib.Seq.{get_or-set_same, get_or-set_other}
 use Rattle.rules.specs.Lists.{At, ◌▷◌}
 use Rattle.rules.specs.Depths.{top}
@@ -15,7 +15,7 @@ use Rattle.rules.specs.KeyTables.{KeyAccess, KeyDelegation, KeyTable, KeyRequest
 use Rattle.rules.specs.declared.Key.{Key}
 use Rattle.reach.specs.Edges.{froms, tos, depths_of}
 use Rattle.keytable.specs.Keeping.{Known}
-use Rattle.keytable.specs.Nodes.{Empty, IsNode, HasNode, Apart, Nodes, Grown}
+use Rattle.keytable.specs.Nodes.{Empty, IsNode, HasNode, Apart, Grown}
 use Rattle.keytable.specs.Matching.{WriterHas, EdgeTurn, drawn, left, CodeTurn, given, enough, Writers, Edge, Drawn, Given, Matched, DrawnOf}
 use Rattle.keytable.proofs.RowsLaws.{longer, entry_before, entry_last}
 use Rattle.keytable.proofs.NodesLaws.{first_node}
@@ -23,9 +23,9 @@ use Rattle.keytable.proofs.MatchingLaws.{one_node_lem, for_wrote, wrote_for, for
 
 module _ (K : KeyTable) (q : Asked Key) where
   -- ---- writers
-  writers_more : (nodes nodes' heads nexts : List ℕ) (i : ℕ) (x : KeyDelegation) → At K.delegations i x → Writers K q nodes i → Grown nodes nodes' heads nexts → WriterHas q nodes' x
+  writers_more : (nodes nodes' : List ℕ) (i : ℕ) (x : KeyDelegation) → At K.delegations i x → Writers K q nodes i → Grown nodes nodes' → WriterHas q nodes' x
       → Writers K q nodes' (i + 1)
-  writers_more nodes nodes' heads nexts i x a w g has = record { writers = λ j d k k' h z. go j d k k' h z (ℕ_discrete j i) }
+  writers_more nodes nodes' i x a w g has = record { writers = λ j d k k' h z. go j d k k' h z (ℕ_discrete j i) }
     where
       go : (j d : ℕ) (k k' : Key) → j < i + 1 → (key_setting K q).Wrote j k k' d → Dec (j ≡ i) → HasNode nodes' k
       go j d k k' h z (yes e) =
@@ -34,19 +34,19 @@ module _ (K : KeyTable) (q : Asked Key) where
       go j d k k' h z (no n) = let m = w.writers j d k k' (omega arith) z in (m.0, g.kept m.0 k m.1)
 
   -- The nodes so far: those that stood before, and the writers of the first `i` delegations that match.
-  pub record Collecting (before nodes heads nexts : List ℕ) (one i n : ℕ) : Type 0 where
-    pub grown : Grown before nodes heads nexts
+  pub record Collecting (before nodes : List ℕ) (i : ℕ) : Type 0 where
+    pub grown : Grown before nodes
     pub writers : Writers K q nodes i
-    pub few : n ≤ one + i
+    pub few : length nodes ≤ length before + i
 
-  pub collecting_start : (nodes heads nexts : List ℕ) (one : ℕ) → Nodes nodes heads nexts → Collecting nodes nodes heads nexts one 0 one
-  collecting_start nodes heads nexts one w = record { grown = record { are = w; kept = λ v k i. i }; writers = record { writers = λ j d k k' h z. absurd (omega arith) }; few = omega arith }
+  pub collecting_start : (nodes : List ℕ) → Apart nodes → Collecting nodes nodes 0
+  collecting_start nodes w = record { grown = record { apart = w; kept = λ v k i. i }; writers = record { writers = λ j d k k' h z. absurd (omega arith) }; few = omega arith }
 
-  pub collecting_on : (before nodes heads nexts nodes' heads' nexts' : List ℕ) (one i n r : ℕ) (x : KeyDelegation) → At K.delegations i x → Collecting before nodes heads nexts one i n
-      → Grown nodes nodes' heads' nexts' → WriterHas q nodes' x → r ≤ n + 1 → Collecting before nodes' heads' nexts' one (i + 1) r
-  collecting_on before nodes heads nexts nodes' heads' nexts' one i n r x a c g has h = record {
-    grown = record { are = g.are; kept = λ v k j. g.kept v k (c.grown.kept v k j) };
-    writers = writers_more nodes nodes' heads' nexts' i x a c.writers g has;
+  pub collecting_on : (before nodes nodes' : List ℕ) (i : ℕ) (x : KeyDelegation) → At K.delegations i x → Collecting before nodes i
+      → Grown nodes nodes' → WriterHas q nodes' x → length nodes' ≤ length nodes + 1 → Collecting before nodes' (i + 1)
+  collecting_on before nodes nodes' i x a c g has h = record {
+    grown = record { apart = g.apart; kept = λ v k j. g.kept v k (c.grown.kept v k j) };
+    writers = writers_more nodes nodes' i x a c.writers g has;
     few = omega (arith, c.few, h);
   }
 
@@ -186,21 +186,18 @@ module _ (K : KeyTable) (q : Asked Key) where
           go j d v k r a (no n) old = omega (arith, old n, rises v (ℕ_discrete v u))
 
 -- ---- all of them
--- There are at most as many nodes as delegations, and the subject's.
-pub nodes_few : (s : List ℕ) (q : Asked Key) (accesses delegations : List ℕ) (one n : ℕ) → Known s q accesses delegations → one ≤ 1 → n ≤ one + length delegations → n ≤ suc most_delegations
-nodes_few s q accesses delegations one n w h g = omega (arith, h, g, w.delegations.counted, w.good.few_delegations)
+-- The subject's node comes first, and then at most one for each delegation.
+pub nodes_room : (s : List ℕ) (q : Asked Key) (accesses delegations : List ℕ) (one : ℕ) → Known s q accesses delegations → one ≤ 1 → one + length delegations ≤ suc most_delegations
+nodes_room s q accesses delegations one w h = omega (arith, h, w.delegations.counted, w.good.few_delegations)
 
-pub first_few : (row : List ℕ) (n most m : ℕ) → n ≤ most → most ≤ m → length (take n row) ≤ m
-first_few row n most m h g = omega (arith, length-take n row)
-
-pub all_matched : (K : KeyTable) (r : KeyRequest) (first keys heads nexts : List ℕ) (one n : ℕ) → one ≤ 1 → HasNode (take one first) r.subject → Grown (take one first) (take n keys) heads nexts
-    → Writers K r.asked (take n keys) (length K.delegations) → (from to depths best : List ℕ) → length (take n keys) ≤ length best
-    → Drawn K r.asked (take n keys) (length K.delegations) from to depths → Given K r.asked (take n keys) (length K.accesses) best → Matched K r from to depths best
-all_matched K r first keys heads nexts one n h has g w from to depths best few d c = record {
-  nodes = take n keys;
+pub all_matched : (K : KeyTable) (r : KeyRequest) (first nodes : List ℕ) → length first ≤ 1 → HasNode first r.subject → Grown first nodes → Writers K r.asked nodes (length K.delegations)
+    → (from to depths best : List ℕ) → length nodes ≤ length best → Drawn K r.asked nodes (length K.delegations) from to depths → Given K r.asked nodes (length K.accesses) best
+    → Matched K r from to depths best
+all_matched K r first nodes one has g w from to depths best few d c = record {
+  nodes = nodes;
   few = few;
-  apart = g.are.apart;
-  subject = g.kept 0 r.subject (first_node first one r.subject h has);
+  apart = g.apart;
+  subject = g.kept 0 r.subject (first_node first r.subject one has);
   writers = w;
   drawn = d;
   given = c;

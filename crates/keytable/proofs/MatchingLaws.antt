@@ -2,6 +2,7 @@
 use mathlib.Core.Path.{◌≡◌, refl, sym, ◌∙◌, ap, subst}
 use mathlib.Core.Bool.{Bool, true, false, not}
 use mathlib.Core.List.{List}
+use Rattle.std.specs.Prelude.{Option, Some, None}
 use Prim.Native.Nat.{ℕ, suc, ◌+◌, ◌<◌, ◌≤◌}
 use native.Mathlib.Omega.{arith}
 use native.Mathlib.Decide.{ℕ_discrete}
@@ -19,8 +20,6 @@ use Rattle.reach.proofs.EdgesLaws.{froms_more, tos_more, depths_more}
 use Rattle.keytable.specs.Keeping.{is_asked}
 use Rattle.keytable.specs.Nodes.{IsNode, HasNode, Apart, FindsNode, node, nobody}
 use Rattle.keytable.specs.Matching.{IsFor, EdgeTurnOf, drawn, left, CodeTurn, given, enough}
-use Rattle.keytable.specs.declared.nodes.NodeFound.{NodeFound}
-use Rattle.keytable.specs.declared.nodes.NodeFound.TheVariants as found
 use Rattle.keytable.proofs.RowsLaws.{written_last}
 
 pub same_key : {k m : Key} → k.0 ≡ m.0 → k ≡ m
@@ -111,18 +110,18 @@ one_node_lem {u = u} {v = v} apart a b = apart u v a.there b.there (a.is ∙ sym
 pub one_key : {nodes : List ℕ} {v : ℕ} {k m : Key} → IsNode nodes v k → IsNode nodes v m → k ≡ m
 one_key a b = same_key (sym a.is ∙ b.is)
 
-module _ (nodes : List ℕ) (k : Key) (r : NodeFound) (f : FindsNode nodes k r) where
-  pub node_found : (v : ℕ) → r ≡ found.Node v → IsNode nodes v k
+module _ (nodes : List ℕ) (k : Key) (r : Option ℕ) (f : FindsNode nodes k r) where
+  pub node_found : (v : ℕ) → r ≡ Some v → IsNode nodes v k
   node_found v e = go r f e
     where
-      go : (r : NodeFound) → FindsNode nodes k r → r ≡ found.Node v → IsNode nodes v k
+      go : (r : Option ℕ) → FindsNode nodes k r → r ≡ Some v → IsNode nodes v k
       go _ (node {v = u} i) e = let q : u ≡ v = cc in subst (λ (y : ℕ). IsNode nodes y k) q i
       go _ (nobody n) e = let z : ◌≡◌ {A = ℕ} 0 1 = cc in absurd (omega arith)
 
-  pub node_missed : r ≡ found.Nobody → HasNode nodes k → ⊥
+  pub node_missed : r ≡ None → HasNode nodes k → ⊥
   node_missed e = go r f e
     where
-      go : (r : NodeFound) → FindsNode nodes k r → r ≡ found.Nobody → HasNode nodes k → ⊥
+      go : (r : Option ℕ) → FindsNode nodes k r → r ≡ None → HasNode nodes k → ⊥
       go _ (node i) e = let z : ◌≡◌ {A = ℕ} 0 1 = cc in absurd (omega arith)
       go _ (nobody n) e = n
 
@@ -135,15 +134,15 @@ module _ (q : Asked Key) (nodes : List ℕ) (x : KeyDelegation) (edges : List �
     pub edge_other : b ≡ false → EdgeTaken edges m
     edge_other e = left (λ w u v. asks_no q x.owner x.object x.right is-asked e w)
 
-    module _ (r : NodeFound) (first : FindsNode nodes x.writer r) where
-      pub edge_from_nobody : r ≡ found.Nobody → EdgeTaken edges m
+    module _ (r : Option ℕ) (first : FindsNode nodes x.writer r) where
+      pub edge_from_nobody : r ≡ None → EdgeTaken edges m
       edge_from_nobody e = left (λ w u v. node_missed nodes x.writer r first e u)
 
-      module _ (t : NodeFound) (second : FindsNode nodes x.delegatee t) where
-        pub edge_to_nobody : t ≡ found.Nobody → EdgeTaken edges m
+      module _ (t : Option ℕ) (second : FindsNode nodes x.delegatee t) where
+        pub edge_to_nobody : t ≡ None → EdgeTaken edges m
         edge_to_nobody e = left (λ w u v. node_missed nodes x.delegatee t second e v)
 
-        module _ (e : b ≡ true) (u v d n : ℕ) (i : r ≡ found.Node u) (j : t ≡ found.Node v) (g : d ≡ x.depth) (is : n ≡ edge_of u v d 0) (few : length nodes ≤ 640) (small : x.depth ≤ top)
+        module _ (e : b ≡ true) (u v d n : ℕ) (i : r ≡ Some u) (j : t ≡ Some v) (g : d ≡ x.depth) (is : n ≡ edge_of u v d 0) (few : length nodes ≤ 640) (small : x.depth ≤ top)
             (h : m < length edges) where
           from_node_lem : IsNode nodes u x.writer
           from_node_lem = node_found nodes x.writer r first u i
@@ -168,11 +167,11 @@ module _ (q : Asked Key) (nodes : List ℕ) (x : KeyAccess) (best : List ℕ) (b
   pub code_other : b ≡ false → CodeTurn q nodes x best best
   code_other e = enough (λ v w i. absurd (asks_no q x.owner x.object x.right is e w))
 
-  module _ (r : NodeFound) (f : FindsNode nodes x.subject r) where
-    pub code_nobody : r ≡ found.Nobody → CodeTurn q nodes x best best
+  module _ (r : Option ℕ) (f : FindsNode nodes x.subject r) where
+    pub code_nobody : r ≡ None → CodeTurn q nodes x best best
     code_nobody e = enough (λ v w i. absurd (node_missed nodes x.subject r f e (v, i)))
 
-    module _ (v c : ℕ) (at : r ≡ found.Node v) (g : c ≡ suc x.depth) where
+    module _ (v c : ℕ) (at : r ≡ Some v) (g : c ≡ suc x.depth) where
       pub code_enough : Apart nodes → c ≤ entry best v → CodeTurn q nodes x best best
       code_enough apart h =
           enough (λ u w i. let e : u ≡ v = one_node_lem apart i (node_found nodes x.subject r f v at) in rw e (omega (arith, h, g)))

@@ -1,18 +1,18 @@
 -- A node is found by following its slot from the last node to the first; one more node becomes the first of its slot.
-use mathlib.Core.Path.{◌≡◌, sym, ◌∙◌, ap, subst}
+use mathlib.Core.Path.{◌≡◌, refl, sym, ◌∙◌, ap, subst}
+use mathlib.Core.Bool.{false}
 use mathlib.Core.List.{List, []}
+use Rattle.std.specs.Prelude.{Option, Some, None, is_some}
 use Prim.Native.Nat.{ℕ, suc, ◌+◌, ◌-◌, ◌<◌, ◌≤◌}
 use native.Mathlib.Nat.{le_refl}
 use native.Mathlib.Omega.{arith}
 use native.Mathlib.Decide.{ℕ_discrete}
 use lib.ListN.{length, take, set, length-set, length-take}
-use lib.Seq.{get_or-set_same, get_or-set_other, length-take-le}
+use lib.Seq.{get_or-set_same, get_or-set_other, get_or-take, length-take-le}
 use Rattle.rules.specs.Lists.{◌▷◌}
 use Rattle.rules.specs.Sheets.{entry}
 use Rattle.rules.specs.declared.Key.{Key}
 use Rattle.keytable.specs.Nodes.{slots, slot, IsNode, HasNode, Leads, Nodes, FindsNode, node, nobody, Grown}
-use Rattle.keytable.specs.declared.nodes.NodeFound.{NodeFound}
-use Rattle.keytable.specs.declared.nodes.NodeFound.TheVariants as found
 use Rattle.keytable.proofs.RowsLaws.{longer, entry_before, entry_last, written_last}
 
 -- ---- finding
@@ -49,11 +49,22 @@ module _ (nodes heads nexts : List ℕ) (w : Nodes nodes heads nexts) (k : Key) 
     pub seeking_less : entry nexts (x - 1) < x
     seeking_less = omega (arith, (w.next (x - 1) seeking_below).most)
 
-    pub seeking_found : entry nodes (x - 1) ≡ k.0 → FindsNode nodes k (found.Node (x - 1))
+    pub seeking_found : entry nodes (x - 1) ≡ k.0 → FindsNode nodes k (Some (x - 1))
     seeking_found e = node (record { there = seeking_below; is = e })
 
-  pub seeking_end : (x : ℕ) → Seeking nodes k.0 x → x ≤ 0 → FindsNode nodes k found.Nobody
+  pub seeking_end : (x : ℕ) → Seeking nodes k.0 x → x ≤ 0 → FindsNode nodes k None
   seeking_end x sk h = nobody (λ m. absurd (omega (arith, sk.all m.0 m.1.there m.1.is)))
+
+-- The nodes are the first so many keys of a row.
+module _ (keys heads nexts : List ℕ) (n : ℕ) (w : Nodes (take n keys) heads nexts) (k : Key) (x : ℕ) (sk : Seeking (take n keys) k.0 x) (h : 0 < x) where
+  shown : entry (take n keys) (x - 1) ≡ entry keys (x - 1)
+  shown = get_or-take n keys (x - 1) 0 (omega (arith, seeking_below (take n keys) heads nexts w k x sk h, length-take n keys))
+
+  pub row_found : entry keys (x - 1) ≡ k.0 → FindsNode (take n keys) k (Some (x - 1))
+  row_found e = seeking_found (take n keys) heads nexts w k x sk h (shown ∙ e)
+
+  pub row_on : (entry keys (x - 1) ≡ k.0 → ⊥) → Seeking (take n keys) k.0 (entry nexts (x - 1))
+  row_on m = seeking_on (take n keys) heads nexts w k x sk h (λ e. m (sym shown ∙ e))
 
 -- ---- adding
 pub nodes_none : (heads nexts : List ℕ) → length heads ≡ slots → ((s : ℕ) → s < slots → entry heads s ≡ 0) → Nodes [] heads nexts
@@ -65,15 +76,11 @@ nodes_none heads nexts e z = record {
   next = λ v a. absurd (omega arith);
 }
 
+pub nobody_yet : (nodes : List ℕ) (k : Key) (r : Option ℕ) → FindsNode nodes k r → false ≡ is_some r → HasNode nodes k → ⊥
+nobody_yet nodes k _ (node i) e = let z : ◌≡◌ {A = ℕ} 0 1 = cc in absurd (omega arith)
+nobody_yet nodes k _ (nobody n) e = n
+
 module _ (nodes heads nexts : List ℕ) (w : Nodes nodes heads nexts) (k : Key) where
-  pub known_already : (r : NodeFound) (v : ℕ) → FindsNode nodes k r → r ≡ found.Node v → HasNode nodes k
-  known_already _ v (node {v = u} i) e = (u, i)
-  known_already _ v (nobody n) e = let z : ◌≡◌ {A = ℕ} 0 1 = cc in absurd (omega arith)
-
-  pub nobody_yet : (r : NodeFound) → FindsNode nodes k r → r ≡ found.Nobody → HasNode nodes k → ⊥
-  nobody_yet _ (node i) e = let z : ◌≡◌ {A = ℕ} 0 1 = cc in absurd (omega arith)
-  nobody_yet _ (nobody n) e = n
-
   -- Whatever leads to nodes below those that stand still does.
   leads_still : (n s x : ℕ) → n ≤ length nodes → Leads nodes n s x → Leads (nodes ▷ k.0) n s x
   leads_still n s x h l = record {
@@ -140,25 +147,28 @@ module _ (nodes heads nexts : List ℕ) (w : Nodes nodes heads nexts) (k : Key) 
   pub has_now : HasNode (nodes ▷ k.0) k
   has_now = (length nodes, record { there = omega (arith, longer nodes k.0); is = entry_last nodes k.0 })
 
-  pub no_more : Grown nodes nodes heads nexts
-  no_more = record { are = w; kept = λ v m i. i }
+  pub no_more : Grown nodes nodes
+  no_more = record { apart = w.apart; kept = λ v m i. i }
+
+pub fewer : (keys nodes : List ℕ) (n most : ℕ) → take n keys ≡ nodes → length nodes < most → n ≤ most → length keys ≡ most → n < most
+fewer keys nodes n most e h m l = omega (arith, ap length e, length-take n keys)
 
 -- One node more, as code makes it.
 module _ (keys heads nexts : List ℕ) (n : ℕ) (w : Nodes (take n keys) heads nexts) (k : Key) (room : n < length keys) (link : n < length nexts) where
   counted : length (take n keys) ≡ n
   counted = length-take-le n keys (omega arith)
 
-  pub added : (r : NodeFound) → FindsNode (take n keys) k r → r ≡ found.Nobody → (s : ℕ) → s ≡ slot k.0
-      → Grown (take n keys) (take (n + 1) (set keys n k.0)) (set heads s (n + 1)) (set nexts n (entry heads s))
-  added r f e s q = rw (q, written_last keys n k.0 room) (record {
-    are = subst (λ (m : ℕ). Nodes (take n keys ▷ k.0) (set heads (slot k.0) (m + 1)) (set nexts m (entry heads (slot k.0)))) counted
-        (one_more (take n keys) heads nexts w k (nobody_yet (take n keys) heads nexts w k r f e) (omega (arith, counted, link)));
-    kept = still_node (take n keys) heads nexts w k;
-  })
+  pub added : (HasNode (take n keys) k → ⊥) → (s : ℕ) → s ≡ slot k.0 → Nodes (take (n + 1) (set keys n k.0)) (set heads s (n + 1)) (set nexts n (entry heads s))
+  added new s q = rw (q, written_last keys n k.0 room)
+      (subst (λ (m : ℕ). Nodes (take n keys ▷ k.0) (set heads (slot k.0) (m + 1)) (set nexts m (entry heads (slot k.0)))) counted
+      (one_more (take n keys) heads nexts w k new (omega (arith, counted, link))))
+
+  pub added_grown : (HasNode (take n keys) k → ⊥) → Grown (take n keys) (take (n + 1) (set keys n k.0))
+  added_grown new = record { apart = (added new (slot k.0) refl).apart; kept = rw (written_last keys n k.0 room) (still_node (take n keys) heads nexts w k) }
 
   pub added_has : HasNode (take (n + 1) (set keys n k.0)) k
   added_has = rw (written_last keys n k.0 room) (has_now (take n keys) heads nexts w k)
 
 -- The first node of all.
-pub first_node : (keys : List ℕ) (n : ℕ) (k : Key) → n ≤ 1 → HasNode (take n keys) k → IsNode (take n keys) 0 k
-first_node keys n k h (v, i) = let e : v ≡ 0 = omega (arith, i.there, length-take n keys) in subst (λ (y : ℕ). IsNode (take n keys) y k) e i
+pub first_node : (nodes : List ℕ) (k : Key) → length nodes ≤ 1 → HasNode nodes k → IsNode nodes 0 k
+first_node nodes k h (v, i) = let e : v ≡ 0 = omega (arith, i.there) in subst (λ (y : ℕ). IsNode nodes y k) e i

@@ -2,6 +2,7 @@
 use mathlib.Core.Path.{◌≡◌, refl, sym, ◌∙◌, ap, subst, subst₂}
 use mathlib.Core.Bool.{Bool, true, false}
 use mathlib.Core.List.{List, [], ◌∷◌}
+use Rattle.std.specs.Prelude.{Ok, Err}
 use Prim.Native.Nat.{ℕ, zero, suc, ◌+◌, ◌/◌, ◌%◌, ◌<◌, ◌≤◌}
 use native.Mathlib.Nat.{le_refl, not-suc-le-zero, le_of_suc-le-suc}
 use native.Mathlib.Omega.{arith}
@@ -15,14 +16,12 @@ use Rattle.records.specs.Many.{many}
 use Rattle.records.specs.Passing.{Sifts}
 use Rattle.records.specs.declared.faults.Fault.{Fault}
 use Rattle.records.proofs.FormatLaws.{Walks}
-use Rattle.table.specs.Sections.{after_read}
+use Rattle.records.proofs.ManyLaws.{going_bad, going_end}
 use Rattle.table.specs.Kept.{Standing}
-use Rattle.table.specs.declared.loading.After.{After}
-use Rattle.table.specs.declared.loading.After.TheVariants as after
 use Rattle.table.proofs.FindingLaws.{at_below}
 use Rattle.table.proofs.KeptLaws.{standing_none, standing_more}
-use Rattle.table.proofs.LoadingLaws.{Besides, rest, there_got, there_bad, there_back, Reading, reading_start, reading_next, reading_stop, reading_end}
-use Rattle.keytable.specs.Keeping.{sift, Placed, Sifted}
+use Rattle.table.proofs.LoadingLaws.{rest, there_got, there_bad, there_back, Reading, reading_start, reading_next}
+use Rattle.keytable.specs.Keeping.{sift, Placed, Tells, Sifted}
 use Rattle.keytable.specs.declared.loading.AfterKept.{AfterKept}
 
 -- ---- what passes
@@ -103,27 +102,16 @@ module _ {A : Type 0} (P : Reader A) (walks : Walks P) (s : List ℕ) (at : ℕ)
 
   module _ (f : A → Bool) where
     -- It is good.
-    pub sifted_got : (x : A) (t m : ℕ) → P (rest s at) 0 ≡ got x t → m ≡ pick (f x) 1 0 → Sifted P f s at (record { after = after.At (at + t); kept = m })
-    sifted_got x t m e k = record {
-      good = λ next q. let n : at + t ≡ next = cc q in (x, (there_got (λ e. P) (λ e. walks) s [] at h x t e).0 ∙ ap (got x) n, k);
-      ill = λ g q. let z : ◌≡◌ {A = ℕ} 0 1 = cc q in absurd (omega arith);
-    }
+    pub sifted_got : (x : A) (t m : ℕ) → P (rest s at) 0 ≡ got x t → m ≡ pick (f x) 1 0 → Sifted P f s at (Ok (record { after = at + t; kept = m }))
+    sifted_got x t m e k = (x, at + t, (there_got (λ e. P) (λ e. walks) s [] at h x t e).0, (refl, k))
 
     -- It has a fault.
-    pub sifted_bad : (e g : Fault) (m : ℕ) → P (rest s at) 0 ≡ bad e → g ≡ moved_fault at e → Sifted P f s at (record { after = after.Fault g; kept = m })
-    sifted_bad e g m q k = record {
-      good = λ next w. let z : ◌≡◌ {A = ℕ} 0 1 = cc w in absurd (omega arith);
-      ill = λ d w. let u : moved_fault at e ≡ d = sym k ∙ cc w in (there_bad (λ e. P) (λ e. walks) s [] at h e q).0 ∙ ap bad u;
-    }
+    pub sifted_bad : (e g : Fault) → P (rest s at) 0 ≡ bad e → g ≡ moved_fault at e → Sifted P f s at (Err g)
+    sifted_bad e g q k = (there_bad (λ e. P) (λ e. walks) s [] at h e q).0 ∙ ap bad (sym k)
 
 -- It is passed over.
-pub sifted_told : {A : Type 0} (P : Reader A) (f : A → Bool) (s : List ℕ) (at r : ℕ) → Sifts P f s at r → 0 < r → Sifted P f s at (record { after = after.At (r / 2); kept = r % 2 })
-sifted_told P f s at r w told =
-    let g = w.good told in
-    record {
-      good = λ next q. let n : r / 2 ≡ next = cc q in (g.0, g.1 ∙ ap (got g.0) n, g.2);
-      ill = λ e q. let z : ◌≡◌ {A = ℕ} 0 1 = cc q in absurd (omega arith);
-    }
+pub sifted_told : {A : Type 0} (P : Reader A) (f : A → Bool) (s : List ℕ) (at r : ℕ) → Sifts P f s at r → 0 < r → Sifted P f s at (Ok (record { after = r / 2; kept = r % 2 }))
+sifted_told P f s at r w told = let g = w.good told in (g.0, r / 2, g.1, (refl, g.2))
 
 -- ---- so many records
 module _ {A : Type 0} (P : Reader A) (walks : Walks P) (f : A → Bool) (s : List ℕ) where
@@ -146,85 +134,80 @@ module _ {A : Type 0} (P : Reader A) (walks : Walks P) (f : A → Bool) (s : Lis
   }
 
   module _ (count from room : ℕ) (places : List ℕ) (at i n : ℕ) (r : Sifting count from room places at i n) where
-    abbrev Keeps : List A → Type 0
-    Keeps l = Placed P s places n (sift f l)
-
     pub sifting_few : n ≤ i
     sifting_few = omega (arith, r.kept, sift_few f r.earlier, r.reading.going.read)
 
     module _ (few : count ≤ room) where
-      pub sifting_end : count ≤ i → Besides after_read Keeps (after.At at) (many (λ e. P) count [] s from)
-      sifting_end h =
-          reading_end (λ e. P) (λ e. walks) s count from at i r.earlier r.reading Keeps
-          (record { counted = r.kept; room = omega (arith, few, sifting_few, r.size, r.reading.most); standing = r.standing }) h
+      pub sifting_end : count ≤ i → Tells {T = AfterKept} (many (λ e. P) count [] s from) (λ l next t. (t.after ≡ next) × Placed P s places t.kept (sift f l)) (Ok (record { after = at; kept = n }))
+      sifting_end h = (
+        r.earlier,
+        at,
+        going_end (λ e. P) s count from i at r.earlier r.reading.going h,
+        (refl, record { counted = r.kept; room = omega (arith, few, sifting_few, r.size, r.reading.most); standing = r.standing }),
+      )
 
       module _ (h : i < count) where
         pub sifting_room : n < length places
         sifting_room = omega (arith, few, h, sifting_few, r.size)
 
-        module _ (found : AfterKept) (w : Sifted P f s at found) where
-          -- The next has a fault, and so have they all.
-          pub sifting_bad : (K : List A → Type 0) (e : Fault) → found.after ≡ after.Fault e → Besides after_read K found.after (many (λ e. P) count [] s from)
-          sifting_bad K e q =
-              subst (λ (a : After). Besides after_read K a (many (λ e. P) count [] s from)) (sym q)
-              (reading_stop (λ e. P) (λ e. walks) s count from at i r.earlier r.reading h K e (w.ill e q))
+        -- The next has a fault, and so have they all.
+        pub sifting_bad : (e : Fault) → P s at ≡ bad e → many (λ e. P) count [] s from ≡ bad e
+        sifting_bad e q = going_bad (λ e. P) s count from i at r.earlier r.reading.going h e q
 
-          -- One more is read, and its place is kept if it passes.
-          pub sifting_on : (next : ℕ) → found.after ≡ after.At next → Sifting count from room (set places n at) next (i + 1) (n + found.kept)
-          sifting_on next q = more found.kept (w.good next q)
-            where
-              more : (m : ℕ) → (x : A) × (P s at ≡ got x next) × (m ≡ pick (f x) 1 0) → Sifting count from room (set places n at) next (i + 1) (n + m)
-              more m (x, e, k) = record {
-                size = length-set places n at ∙ r.size;
-                earlier = r.earlier ▷ x;
-                reading = reading_next (λ e. P) (λ e. walks) s count from at i r.earlier r.reading h x next e;
-                kept = (passed (f x) refl).0;
-                standing = (passed (f x) refl).1;
-              }
-                where
-                  passed : (b : Bool) → f x ≡ b → (n + m ≡ length (sift f (r.earlier ▷ x))) × Standing P s (set places n at) (sift f (r.earlier ▷ x))
-                  passed true p =
-                      let c : m ≡ 1 = k ∙ ap (λ (b : Bool). pick b 1 0) p in (
-                        omega (arith, c, r.kept, ap length (sift_kept f r.earlier x p), length-append (sift f r.earlier) (x ∷ [])),
-                        subst₂ (λ (j : ℕ) (l : List A). Standing P s (set places j at) l) (sym r.kept) (sym (sift_kept f r.earlier x p))
-                            (standing_more P s places (sift f r.earlier) x at next (omega (arith, sifting_room, r.kept)) r.reading.within e r.standing),
-                      )
-                  passed false p =
-                      let c : m ≡ 0 = k ∙ ap (λ (b : Bool). pick b 1 0) p in (
-                        omega (arith, c, r.kept, ap length (sift_passed f r.earlier x p)),
-                        subst₂ (λ (j : ℕ) (l : List A). Standing P s (set places j at) l) (sym r.kept) (sym (sift_passed f r.earlier x p))
-                            (standing_still P s places (sift f r.earlier) at r.standing),
-                      )
+        -- One more is read, and its place is kept if it passes.
+        pub sifting_on : (found : AfterKept) → Sifted P f s at (Ok found) → Sifting count from room (set places n at) found.after (i + 1) (n + found.kept)
+        sifting_on found (x, next, e, (a, k)) = more found.after found.kept (e ∙ ap (got x) (sym a)) k
+          where
+            more : (next m : ℕ) → P s at ≡ got x next → m ≡ pick (f x) 1 0 → Sifting count from room (set places n at) next (i + 1) (n + m)
+            more next m e k = record {
+              size = length-set places n at ∙ r.size;
+              earlier = r.earlier ▷ x;
+              reading = reading_next (λ e. P) (λ e. walks) s count from at i r.earlier r.reading h x next e;
+              kept = (passed (f x) refl).0;
+              standing = (passed (f x) refl).1;
+            }
+              where
+                passed : (b : Bool) → f x ≡ b → (n + m ≡ length (sift f (r.earlier ▷ x))) × Standing P s (set places n at) (sift f (r.earlier ▷ x))
+                passed true p =
+                    let c : m ≡ 1 = k ∙ ap (λ (b : Bool). pick b 1 0) p in (
+                      omega (arith, c, r.kept, ap length (sift_kept f r.earlier x p), length-append (sift f r.earlier) (x ∷ [])),
+                      subst₂ (λ (j : ℕ) (l : List A). Standing P s (set places j at) l) (sym r.kept) (sym (sift_kept f r.earlier x p))
+                          (standing_more P s places (sift f r.earlier) x at next (omega (arith, sifting_room, r.kept)) r.reading.within e r.standing),
+                    )
+                passed false p =
+                    let c : m ≡ 0 = k ∙ ap (λ (b : Bool). pick b 1 0) p in (
+                      omega (arith, c, r.kept, ap length (sift_passed f r.earlier x p)),
+                      subst₂ (λ (j : ℕ) (l : List A). Standing P s (set places j at) l) (sym r.kept) (sym (sift_passed f r.earlier x p))
+                          (standing_still P s places (sift f r.earlier) at r.standing),
+                    )
 
--- ---- reading again at a place that is kept: no record has a fault, and each is the one of its number
-module _ {A : Type 0} (P : Reader A) (walks : Walks P) (s places : List ℕ) (count : ℕ) (l : List A) (w : Placed P s places count l) (i : ℕ) (h : i < count) where
-  pub placed_within : get_or places i 0 ≤ length s
-  placed_within = w.standing.within i (omega (arith, h, w.counted))
+-- ---- reading again at a place
+module _ {A : Type 0} (P : Reader A) (walks : Walks P) (s : List ℕ) (at : ℕ) (h : at ≤ length s) (found : (x : A) × (next : ℕ) × (P s at ≡ got x next)) where
+  pub again_well : (g : Fault) → P (rest s at) 0 ≡ bad g → ⊥
+  again_well g e =
+      let b = there_back (λ earlier. P) (λ earlier. walks) s [] at h found.0 found.1 found.2 in
+      let q : ◌≡◌ {A = Parsed A} (got found.0 b.0) (bad g) = sym b.1 ∙ e in
+      let z : ◌≡◌ {A = ℕ} 0 1 = cc q in
+      absurd (omega arith)
 
-  stands : (x : A) × (n : ℕ) × At l i x × (P (rest s (get_or places i 0)) 0 ≡ got x n)
-  stands =
+  pub again_got : (x y : A) (n : ℕ) → P (rest s at) 0 ≡ got x n → x ≡ y → (next : ℕ) × (P s at ≡ got y next)
+  again_got x y n e q = (at + n, (there_got (λ earlier. P) (λ earlier. walks) s [] at h x n e).0 ∙ ap (λ (z : A). got z (at + n)) q)
+
+-- ---- a place that is kept: the record of its number stands there
+module _ {A : Type 0} (P : Reader A) (s places : List ℕ) (count : ℕ) (l : List A) (w : Placed P s places count l) (i : ℕ) (h : i < count) where
+  pub placed_stands : (get_or places i 0 ≤ length s) × (x : A) × (next : ℕ) × (P s (get_or places i 0) ≡ got x next)
+  placed_stands =
       let a = at_below l i (omega (arith, h, w.counted)) in
       let r = w.standing.stands i a.0 a.1 in
-      let b = there_back (λ earlier. P) (λ earlier. walks) s [] (get_or places i 0) placed_within a.0 r.0 r.1 in
-      (a.0, b.0, a.1, b.1)
+      (w.standing.within i (omega (arith, h, w.counted)), a.0, r.0, r.1)
 
-  pub placed_at : (x : A) (n : ℕ) → P (rest s (get_or places i 0)) 0 ≡ got x n → At l i x
-  placed_at x n e = go stands
-    where
-      go : (y : A) × (m : ℕ) × At l i y × (P (rest s (get_or places i 0)) 0 ≡ got y m) → At l i x
-      go (y, m, a, p) =
-          let q : ◌≡◌ {A = Parsed A} (got y m) (got x n) = sym p ∙ e in
-          let u : y ≡ x = cc q in
-          subst (At l i) u a
-
-  pub placed_well : (g : Fault) → P (rest s (get_or places i 0)) 0 ≡ bad g → ⊥
-  placed_well g e = go stands
-    where
-      go : (y : A) × (m : ℕ) × At l i y × (P (rest s (get_or places i 0)) 0 ≡ got y m) → ⊥
-      go (y, m, a, p) =
-          let q : ◌≡◌ {A = Parsed A} (got y m) (bad g) = sym p ∙ e in
-          let z : ◌≡◌ {A = ℕ} 0 1 = cc q in
-          absurd (omega arith)
+  pub placed_at : (x : A) → (next : ℕ) × (P s (get_or places i 0) ≡ got x next) → At l i x
+  placed_at x (n, e) =
+      let a = at_below l i (omega (arith, h, w.counted)) in
+      let r = w.standing.stands i a.0 a.1 in
+      let q : ◌≡◌ {A = Parsed A} (got a.0 r.0) (got x n) = sym r.1 ∙ e in
+      let u : a.0 ≡ x = cc q in
+      subst (At l i) u a.1
 
 pub placed_end : {A : Type 0} (P : Reader A) (s places : List ℕ) (count : ℕ) (l : List A) → Placed P s places count l → (i : ℕ) → i ≤ count → count ≤ i → i ≡ length l
 placed_end P s places count l w i h g = omega (arith, h, g, w.counted)

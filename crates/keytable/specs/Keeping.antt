@@ -1,11 +1,11 @@
 -- What reading a key table for a request keeps: where those records stand that are for what is asked.
-use Rattle.std.specs.Prelude.{◌≡◌, Bool, List, [], ◌∷◌, ℕ, ◌≤◌, length}
+use Rattle.std.specs.Prelude.{◌≡◌, Bool, List, [], ◌∷◌, ℕ, ◌≤◌, length, Result, MatchResult}
 use Rattle.rules.specs.Choice.{pick}
 use Rattle.rules.specs.Ranges.{GoodKeyTable}
 use Rattle.rules.specs.Tables.{Asked}
 use Rattle.rules.specs.KeyTables.{KeyAccess, KeyDelegation, KeyTable}
 use Rattle.rules.specs.declared.Key.{Key}
-use Rattle.records.specs.Parsed.{got, bad, Reader}
+use Rattle.records.specs.Parsed.{Parsed, got, bad, Reader}
 use Rattle.records.specs.KeyRecords.{key_access_record, key_delegation_record}
 use Rattle.records.specs.Passing.{is_for}
 use Rattle.records.specs.declared.faults.Fault.{Fault}
@@ -14,7 +14,6 @@ use Rattle.records.specs.declared.requests.KeyRequestRead.{KeyRequestRead}
 use Rattle.records.specs.declared.requests.KeyRequestRead.TheVariants as asked
 use Rattle.table.specs.Kept.{Standing}
 use Rattle.table.specs.ReadKeyTable.{KeyLaid}
-use Rattle.table.specs.declared.loading.After.TheVariants as after
 use Rattle.keytable.specs.Loading.{key_table_at}
 use Rattle.keytable.specs.declared.loading.AfterKept.{AfterKept}
 
@@ -45,10 +44,13 @@ asked_of K q = record { accesses = sift (access_asked q) K.accesses; delegations
 abbrev pub asked_at : List ℕ → Asked Key → KeyTable
 asked_at s q = asked_of (key_table_at s) q
 
+-- What is told of a reading: of what was found, and the place after it, or its fault.
+abbrev pub Tells : {A T : Type 0} → Parsed A → (A → ℕ → T → Type 0) → Result T Fault → Type 0
+Tells {A} p K r = MatchResult r (λ t. (x : A) × (next : ℕ) × (p ≡ got x next) × K x next t) (λ e. p ≡ bad e)
+
 -- The place after the record at a place, and one if it passes the test, else none; or its fault.
-pub record Sifted {A : Type 0} (P : Reader A) (f : A → Bool) (s : List ℕ) (at : ℕ) (r : AfterKept) : Type 0 where
-  pub good : (next : ℕ) → r.after ≡ after.At next → (x : A) × (P s at ≡ got x next) × (r.kept ≡ pick (f x) 1 0)
-  pub ill : (e : Fault) → r.after ≡ after.Fault e → P s at ≡ bad e
+abbrev pub Sifted : {A : Type 0} → Reader A → (A → Bool) → List ℕ → ℕ → Result AfterKept Fault → Type 0
+Sifted P f s at r = Tells (P s at) (λ x next t. (t.after ≡ next) × (t.kept ≡ pick (f x) 1 0)) r
 
 -- The first `n` entries are the places at which the records of the list stand.
 pub record Placed {A : Type 0} (P : Reader A) (s places : List ℕ) (n : ℕ) (l : List A) : Type 0 where

@@ -1,12 +1,15 @@
 -- Nodes: numbers from 0 for keys, so that a key is found without looking through all of them. They are spread over 64 slots.
-use Rattle.std.specs.Prelude.{◌≡◌, List, ℕ, suc, ◌+◌, ◌/◌, ◌%◌, ◌<◌, ◌≤◌, length}
+use Rattle.std.specs.Prelude.{◌≡◌, List, ℕ, suc, ◌+◌, ◌/◌, ◌%◌, ◌<◌, ◌≤◌, length, Option, Some, None}
+use Rattle.rules.specs.Ranges.{most_delegations}
 use Rattle.rules.specs.Sheets.{entry}
 use Rattle.rules.specs.declared.Key.{Key}
-use Rattle.keytable.specs.declared.nodes.NodeFound.{NodeFound}
-use Rattle.keytable.specs.declared.nodes.NodeFound.TheVariants as found
 
 abbrev pub slots : ℕ
 slots = 64
+
+-- The subject's node, and one for the writer of each delegation.
+abbrev pub most_nodes : ℕ
+most_nodes = suc most_delegations
 
 -- A row of nothing but 0.
 abbrev pub Empty : List ℕ → Type 0
@@ -43,11 +46,11 @@ pub record Nodes (nodes heads nexts : List ℕ) : Type 0 where
   pub next : (v : ℕ) → v < length nodes → Leads nodes v (slot (entry nodes v)) (entry nexts v)
 
 -- The node of the key, or none.
-pub data FindsNode (nodes : List ℕ) (k : Key) : NodeFound → Type 0 where
-  node : {v : ℕ} → IsNode nodes v k → FindsNode nodes k (found.Node v)
-  nobody : (HasNode nodes k → ⊥) → FindsNode nodes k found.Nobody
+pub data FindsNode (nodes : List ℕ) (k : Key) : Option ℕ → Type 0 where
+  node : {v : ℕ} → IsNode nodes v k → FindsNode nodes k (Some v)
+  nobody : (HasNode nodes k → ⊥) → FindsNode nodes k None
 
--- More nodes, perhaps: those that were there still stand for their keys.
-pub record Grown (before nodes heads nexts : List ℕ) : Type 0 where
-  pub are : Nodes nodes heads nexts
+-- More nodes, perhaps: those that were there still stand for their keys, and no key stands twice.
+pub record Grown (before nodes : List ℕ) : Type 0 where
+  pub apart : Apart nodes
   pub kept : (v : ℕ) (k : Key) → IsNode before v k → IsNode nodes v k

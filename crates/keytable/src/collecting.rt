@@ -1,44 +1,38 @@
 // All records that match a request, collected from the places that are kept: nodes for keys, edges for delegations, and the codes at the start.
-ghost use Rattle.std.specs.Prelude.{◌+◌, ◌<◌, ◌≤◌, length, take};
+ghost use Rattle.std.specs.Prelude.{◌≡◌, ℕ, ◌+◌, ◌<◌, ◌≤◌, length, take};
 ghost use Rattle.rules.specs.Ranges.{most_delegations, GoodKeyTable};
 ghost use Rattle.records.specs.KeyRecords.{key_access_record, key_delegation_record};
+ghost use Rattle.records.specs.Parsed.{got};
 ghost use Rattle.keytable.specs.Keeping.{asked_at, Placed, Known};
-ghost use Rattle.keytable.specs.Nodes.{Empty, Nodes, Grown};
+ghost use Rattle.keytable.specs.Nodes.{most_nodes, Empty, Apart, Grown};
 ghost use Rattle.keytable.specs.Matching.{key_request_of, Writers, Given, DrawnOf, MatchedOf};
 
+use crate::kinds::KeyRecord;
 use crate::matching::{take_access, take_delegation, take_writer};
-use crate::nodes::add_node;
-use records::keys::{KeyAccessRead, KeyDelegationRead, read_key_access, read_key_delegation};
+use crate::nodes::KeyNodes;
 use records::requests::KeyRequest;
 
-// Makes nodes for the writers of the delegations that match, behind those that stand; answers how many there are then.
-fn collect_nodes(
-    table: &[u8],
-    places: &[u16],
-    request: KeyRequest,
-    keys: &mut [u32],
-    heads: &mut [u16],
-    nexts: &mut [u16],
-    one: usize,
-) -> usize
-    requires { Placed key_delegation_record table.now places.now (length places.now) (asked_at table.now (key_request_of request).asked).delegations × Nodes (take one keys.old) heads.old nexts.old × (one + length places.now ≤ length keys.old) × (one + length places.now ≤ length nexts.old) × (one + length places.now ≤ 65535) }
-    ensures grown { Grown (take one keys.old) (take result keys.new) heads.new nexts.new }
-    ensures writers { Writers (asked_at table.now (key_request_of request).asked) (key_request_of request).asked (take result keys.new) (length (asked_at table.now (key_request_of request).asked).delegations) }
-    ensures few { result ≤ one + length places.now }
+// The record at a place that is kept, read again.
+fn record_at<R: KeyRecord>(table: &[u8], place: u16) -> R
+    requires { (place ≤ length table.now) × (x : R.Meaning) × (next : ℕ) × (R.reader table.now place ≡ got x next) }
+    ensures { (next : ℕ) × (R.reader table.now place ≡ got (R.meaning result) next) }
 {
-    let count = places.len();
-    let mut n = one;
-    let mut i = 0;
-    while i < count {
-        let at = places[i] as usize;
-        let read = read_key_delegation(&table[at..]);
-        let KeyDelegationRead::KeyDelegation(delegation, _) = read else {
-            return n;
-        };
-        n = take_writer(request, delegation, keys, heads, nexts, n);
-        i = i + 1;
+    match R::read(&table[usize::from(place)..]) {
+        Ok((record, _)) => record,
+        Err(_) => unreachable!(),
     }
-    n
+}
+
+// Makes nodes for the writers of the delegations that match, behind those that stand.
+fn collect_nodes(table: &[u8], places: &[u16], request: KeyRequest, nodes: &mut KeyNodes)
+    requires { Placed key_delegation_record table.now places.now (length places.now) (asked_at table.now (key_request_of request).asked).delegations × Apart nodes.old × (length nodes.old + length places.now ≤ most_nodes) }
+    ensures grown { Grown nodes.old nodes.new }
+    ensures writers { Writers (asked_at table.now (key_request_of request).asked) (key_request_of request).asked nodes.new (length (asked_at table.now (key_request_of request).asked).delegations) }
+    ensures few { length nodes.new ≤ most_nodes }
+{
+    for place in places {
+        take_writer(request, record_at(table, *place), nodes);
+    }
 }
 
 // Draws the edges of the delegations that match; answers how many there are.
@@ -46,26 +40,16 @@ fn collect_edges(
     table: &[u8],
     places: &[u16],
     request: KeyRequest,
-    keys: &[u32],
-    heads: &[u16],
-    nexts: &[u16],
+    nodes: &KeyNodes,
     edges: &mut [u32],
 ) -> usize
-    requires { Placed key_delegation_record table.now places.now (length places.now) (asked_at table.now (key_request_of request).asked).delegations × GoodKeyTable (asked_at table.now (key_request_of request).asked) × Nodes keys.now heads.now nexts.now × (length keys.now ≤ 640) × (length places.now ≤ length edges.old) }
-    ensures drawn { DrawnOf (asked_at table.now (key_request_of request).asked) (key_request_of request).asked keys.now (length (asked_at table.now (key_request_of request).asked).delegations) (take result edges.new) }
+    requires { Placed key_delegation_record table.now places.now (length places.now) (asked_at table.now (key_request_of request).asked).delegations × GoodKeyTable (asked_at table.now (key_request_of request).asked) × Apart nodes.now × (length places.now ≤ length edges.old) }
+    ensures drawn { DrawnOf (asked_at table.now (key_request_of request).asked) (key_request_of request).asked nodes.now (length (asked_at table.now (key_request_of request).asked).delegations) (take result edges.new) }
     ensures few { result ≤ length places.now }
 {
-    let count = places.len();
     let mut m = 0;
-    let mut i = 0;
-    while i < count {
-        let at = places[i] as usize;
-        let read = read_key_delegation(&table[at..]);
-        let KeyDelegationRead::KeyDelegation(delegation, _) = read else {
-            return m;
-        };
-        m = take_delegation(request, delegation, keys, heads, nexts, edges, m);
-        i = i + 1;
+    for place in places {
+        m = take_delegation(request, record_at(table, *place), nodes, edges, m);
     }
     m
 }
@@ -75,24 +59,14 @@ fn collect_codes(
     table: &[u8],
     places: &[u16],
     request: KeyRequest,
-    keys: &[u32],
-    heads: &[u16],
-    nexts: &[u16],
+    nodes: &KeyNodes,
     best: &mut [u8],
 )
-    requires { Placed key_access_record table.now places.now (length places.now) (asked_at table.now (key_request_of request).asked).accesses × GoodKeyTable (asked_at table.now (key_request_of request).asked) × Nodes keys.now heads.now nexts.now × (length keys.now ≤ length best.old) × Empty best.old }
-    ensures { Given (asked_at table.now (key_request_of request).asked) (key_request_of request).asked keys.now (length (asked_at table.now (key_request_of request).asked).accesses) best.new }
+    requires { Placed key_access_record table.now places.now (length places.now) (asked_at table.now (key_request_of request).asked).accesses × GoodKeyTable (asked_at table.now (key_request_of request).asked) × Apart nodes.now × (length nodes.now ≤ length best.old) × Empty best.old }
+    ensures { Given (asked_at table.now (key_request_of request).asked) (key_request_of request).asked nodes.now (length (asked_at table.now (key_request_of request).asked).accesses) best.new }
 {
-    let count = places.len();
-    let mut i = 0;
-    while i < count {
-        let at = places[i] as usize;
-        let read = read_key_access(&table[at..]);
-        let KeyAccessRead::KeyAccess(access, _) = read else {
-            return;
-        };
-        take_access(request, access, keys, heads, nexts, best);
-        i = i + 1;
+    for place in places {
+        take_access(request, record_at(table, *place), nodes, best);
     }
 }
 
@@ -109,28 +83,9 @@ pub fn collect(
     ensures matched { MatchedOf (asked_at table.now (key_request_of request).asked) (key_request_of request) (take result edges.new) best.new }
     ensures few { result ≤ most_delegations }
 {
-    let mut keys = [0; 513];
-    let mut heads = [0; 64];
-    let mut nexts = [0; 513];
-    let subject = request.subject;
-    let one = add_node(&mut keys, &mut heads, &mut nexts, 0, subject);
-    let n = collect_nodes(
-        table,
-        delegations,
-        request,
-        &mut keys,
-        &mut heads,
-        &mut nexts,
-        one,
-    );
-    collect_codes(table, accesses, request, &keys[..n], &heads, &nexts, best);
-    collect_edges(
-        table,
-        delegations,
-        request,
-        &keys[..n],
-        &heads,
-        &nexts,
-        edges,
-    )
+    let mut nodes = KeyNodes::new();
+    nodes.add(request.subject);
+    collect_nodes(table, delegations, request, &mut nodes);
+    collect_codes(table, accesses, request, &nodes, best);
+    collect_edges(table, delegations, request, &nodes, edges)
 }

@@ -1,234 +1,110 @@
 // Sections of key records: a count, and so many records. Where those stand that are for what is asked is kept.
-ghost use Rattle.std.specs.Prelude.{◌≡◌, [], ◌≤◌, length};
-ghost use Rattle.rules.specs.Choice.{pick};
-ghost use Rattle.rules.specs.Ranges.{most_accesses, most_delegations};
+ghost use Rattle.std.specs.Prelude.{◌≡◌, [], ◌≤◌, length, IfOk, MatchResult};
 ghost use Rattle.records.specs.Many.{many};
-ghost use Rattle.records.specs.KeyRecords.{key_access_record, key_delegation_record};
-ghost use Rattle.table.specs.Sections.{section, section_read, after_read};
-ghost use Rattle.table.specs.Kept.{IfGood};
+ghost use Rattle.records.specs.declared.fields.Field.TheVariants as as_field;
+ghost use Rattle.table.specs.Sections.{section, section_of};
 ghost use Rattle.table.specs.ReadKeyTable.{most_key_table};
-ghost use Rattle.keytable.specs.Keeping.{is_asked, access_asked, delegation_asked, sift, Placed, Sifted};
+ghost use Rattle.keytable.specs.Keeping.{sift, Placed, Tells, Sifted};
 ghost use Rattle.keytable.specs.Matching.{key_request_of};
 
-use crate::matching::is_asked;
-use records::faults::moved;
-use records::fields::{Field, Use, field_fault, read_field};
-use records::keys::{KeyAccessRead, KeyDelegationRead, read_key_access, read_key_delegation};
-use records::passing::{pass_key_access, pass_key_delegation};
+use crate::kinds::KeyRecord;
+use records::faults::{Fault, moved};
+use records::fields::{Field, read_field};
 use records::requests::KeyRequest;
-use rules::Key;
-use table::loading::{After, MOST_ACCESSES, MOST_DELEGATIONS, Section, SectionRead, after_fault};
+use table::loading::Section;
 
 // The place after records that were read, and how many places are kept.
 #[derive(Clone, Copy)]
 pub struct AfterKept {
-    pub after: After,
+    pub after: usize,
     pub kept: usize,
 }
 
-// A section, and how many places are kept.
+// A section, the place after it, and how many places are kept.
 #[derive(Clone, Copy)]
 pub struct SectionKept {
-    pub read: SectionRead,
+    pub section: Section,
+    pub after: usize,
     pub kept: usize,
 }
 
-// One if a record for this owner and use is for what is asked, and else none.
-fn one_if_asked(request: KeyRequest, owner: Key, wanted: Use) -> usize
-    ensures { result ≡ pick (is_asked (key_request_of request).asked owner wanted.object wanted.right) 1 0 }
+// A number that was read with the place after it, or its fault.
+pub fn told(field: Field) -> Result<(u32, usize), Fault>
+    ensures { MatchResult result (λ r. field ≡ as_field.Value r.0 r.1) (λ e. field ≡ as_field.Fault e) }
 {
-    if is_asked(request, owner, wanted) {
-        return 1;
+    match field {
+        Field::Value(number, at) => Ok((number, at)),
+        Field::Fault(fault) => Err(fault),
     }
-    0
 }
 
-// The place after the key access record at a place, and one if it is for what is asked, else none.
-fn after_access(table: &[u8], at: usize, request: KeyRequest) -> AfterKept
+// The place after the record at a place, and one if it is for what is asked, else none.
+fn after_record<R: KeyRecord>(
+    table: &[u8],
+    at: usize,
+    request: KeyRequest,
+) -> Result<AfterKept, Fault>
     requires { (at ≤ length table.now) × (length table.now ≤ most_key_table) }
-    ensures { Sifted key_access_record (access_asked (key_request_of request).asked) table.now at result }
+    ensures { Sifted R.reader (R.asked (key_request_of request).asked) table.now at result }
 {
-    let owner = request.owner;
-    let wanted = request.wanted;
-    let passed = pass_key_access(table, at, owner.0, wanted.object, wanted.right);
+    let passed = R::pass(table, at, request);
     if 0 < passed {
-        return AfterKept {
-            after: After::At(passed / 2),
+        return Ok(AfterKept {
+            after: passed / 2,
             kept: passed % 2,
-        };
+        });
     }
-    match read_key_access(&table[at..]) {
-        KeyAccessRead::KeyAccess(access, taken) => AfterKept {
-            after: After::At(at + taken),
-            kept: one_if_asked(request, access.owner, access.wanted),
-        },
-        KeyAccessRead::Fault(fault) => AfterKept {
-            after: After::Fault(moved(fault, at)),
-            kept: 0,
-        },
+    match R::read(&table[at..]) {
+        Ok((record, taken)) => Ok(AfterKept {
+            after: at + taken,
+            kept: usize::from(record.is_asked(request)),
+        }),
+        Err(fault) => Err(moved(fault, at)),
     }
 }
 
-// The place after the key delegation at a place, and one if it is for what is asked, else none.
-fn after_delegation(table: &[u8], at: usize, request: KeyRequest) -> AfterKept
-    requires { (at ≤ length table.now) × (length table.now ≤ most_key_table) }
-    ensures { Sifted key_delegation_record (delegation_asked (key_request_of request).asked) table.now at result }
-{
-    let owner = request.owner;
-    let wanted = request.wanted;
-    let passed = pass_key_delegation(table, at, owner.0, wanted.object, wanted.right);
-    if 0 < passed {
-        return AfterKept {
-            after: After::At(passed / 2),
-            kept: passed % 2,
-        };
-    }
-    match read_key_delegation(&table[at..]) {
-        KeyDelegationRead::KeyDelegation(delegation, taken) => AfterKept {
-            after: After::At(at + taken),
-            kept: one_if_asked(request, delegation.owner, delegation.wanted),
-        },
-        KeyDelegationRead::Fault(fault) => AfterKept {
-            after: After::Fault(moved(fault, at)),
-            kept: 0,
-        },
-    }
-}
-
-// So many key access records from a place on; where those stand that are for what is asked is kept in `places`.
-fn read_accesses(
+// So many records from a place on; where those stand that are for what is asked is kept in `places`.
+fn read_records<R: KeyRecord>(
     table: &[u8],
     from: usize,
     count: usize,
     request: KeyRequest,
     places: &mut [u16],
-) -> AfterKept
+) -> Result<AfterKept, Fault>
     requires { (count ≤ length places.old) × (from ≤ length table.now) × (length table.now ≤ most_key_table) }
-    ensures read { result.after ≡ after_read (many (λ earlier. key_access_record) count [] table.now from) }
-    ensures kept { IfGood (many (λ earlier. key_access_record) count [] table.now from)
-        (λ l. Placed key_access_record table.now places.new result.kept (sift (access_asked (key_request_of request).asked) l)) }
+    ensures read { Tells (many (λ earlier. R.reader) count [] table.now from)
+        (λ l next r. (r.after ≡ next) × Placed R.reader table.now places.new r.kept (sift (R.asked (key_request_of request).asked) l)) result }
+    ensures within { IfOk result (λ r. r.after ≤ length table.now) }
 {
     let mut at = from;
-    let mut i = 0;
     let mut n = 0;
-    while i < count {
-        let found = after_access(table, at, request);
-        let after = found.after;
-        let kept = found.kept;
-        let After::At(next) = after else {
-            return found;
-        };
+    for _ in 0..count {
+        let found = after_record::<R>(table, at, request)?;
         places[n] = at as u16;
-        n = n + kept;
-        at = next;
-        i = i + 1;
+        n += found.kept;
+        at = found.after;
     }
-    AfterKept {
-        after: After::At(at),
-        kept: n,
-    }
+    Ok(AfterKept { after: at, kept: n })
 }
 
-// So many key delegations from a place on; where those stand that are for what is asked is kept in `places`.
-fn read_delegations(
-    table: &[u8],
-    from: usize,
-    count: usize,
-    request: KeyRequest,
-    places: &mut [u16],
-) -> AfterKept
-    requires { (count ≤ length places.old) × (from ≤ length table.now) × (length table.now ≤ most_key_table) }
-    ensures read { result.after ≡ after_read (many (λ earlier. key_delegation_record) count [] table.now from) }
-    ensures kept { IfGood (many (λ earlier. key_delegation_record) count [] table.now from)
-        (λ l. Placed key_delegation_record table.now places.new result.kept (sift (delegation_asked (key_request_of request).asked) l)) }
-{
-    let mut at = from;
-    let mut i = 0;
-    let mut n = 0;
-    while i < count {
-        let found = after_delegation(table, at, request);
-        let after = found.after;
-        let kept = found.kept;
-        let After::At(next) = after else {
-            return found;
-        };
-        places[n] = at as u16;
-        n = n + kept;
-        at = next;
-        i = i + 1;
-    }
-    AfterKept {
-        after: After::At(at),
-        kept: n,
-    }
-}
-
-// The section of the key access records; where those stand that are for what is asked is kept in `places`.
-pub fn load_accesses(
+// The section of the records; where those stand that are for what is asked is kept in `places`.
+pub fn load_section<R: KeyRecord>(
     table: &[u8],
     from: usize,
     request: KeyRequest,
     places: &mut [u16],
-) -> SectionKept
-    requires { (most_accesses ≤ length places.old) × (from ≤ length table.now) × (length table.now ≤ most_key_table) }
-    ensures read { result.read ≡ section_read (section most_accesses (λ earlier. key_access_record) table.now from) }
-    ensures kept { IfGood (section most_accesses (λ earlier. key_access_record) table.now from)
-        (λ l. Placed key_access_record table.now places.new result.kept (sift (access_asked (key_request_of request).asked) l.records)) }
+) -> Result<SectionKept, Fault>
+    requires { (R.MOST ≤ length places.old) × (from ≤ length table.now) × (length table.now ≤ most_key_table) }
+    ensures read { Tells (section R.MOST (λ earlier. R.reader) table.now from)
+        (λ p next r. (r.section ≡ section_of p) × (r.after ≡ next) × Placed R.reader table.now places.new r.kept (sift (R.asked (key_request_of request).asked) p.records)) result }
+    ensures within { IfOk result (λ r. r.after ≤ length table.now) }
 {
-    let header = read_field(table, from, 0, MOST_ACCESSES);
-    let Field::Value(number, first) = header else {
-        return SectionKept {
-            read: SectionRead::Fault(field_fault(header)),
-            kept: 0,
-        };
-    };
+    let (number, first) = told(read_field(table, from, 0, R::MOST))?;
     let count = number as usize;
-    let found = read_accesses(table, first, count, request, places);
-    let rest = found.after;
-    let kept = found.kept;
-    let After::At(at) = rest else {
-        return SectionKept {
-            read: SectionRead::Fault(after_fault(rest)),
-            kept: 0,
-        };
-    };
-    SectionKept {
-        read: SectionRead::Section(Section { count, first }, at),
-        kept,
-    }
-}
-
-// The section of the key delegations; where those stand that are for what is asked is kept in `places`.
-pub fn load_delegations(
-    table: &[u8],
-    from: usize,
-    request: KeyRequest,
-    places: &mut [u16],
-) -> SectionKept
-    requires { (most_delegations ≤ length places.old) × (from ≤ length table.now) × (length table.now ≤ most_key_table) }
-    ensures read { result.read ≡ section_read (section most_delegations (λ earlier. key_delegation_record) table.now from) }
-    ensures kept { IfGood (section most_delegations (λ earlier. key_delegation_record) table.now from)
-        (λ l. Placed key_delegation_record table.now places.new result.kept (sift (delegation_asked (key_request_of request).asked) l.records)) }
-{
-    let header = read_field(table, from, 0, MOST_DELEGATIONS);
-    let Field::Value(number, first) = header else {
-        return SectionKept {
-            read: SectionRead::Fault(field_fault(header)),
-            kept: 0,
-        };
-    };
-    let count = number as usize;
-    let found = read_delegations(table, first, count, request, places);
-    let rest = found.after;
-    let kept = found.kept;
-    let After::At(at) = rest else {
-        return SectionKept {
-            read: SectionRead::Fault(after_fault(rest)),
-            kept: 0,
-        };
-    };
-    SectionKept {
-        read: SectionRead::Section(Section { count, first }, at),
-        kept,
-    }
+    let found = read_records::<R>(table, first, count, request, places)?;
+    Ok(SectionKept {
+        section: Section { count, first },
+        after: found.after,
+        kept: found.kept,
+    })
 }

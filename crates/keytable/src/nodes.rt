@@ -1,14 +1,26 @@
 // Nodes: numbers for keys, found by the slot of the key.
-ghost use Rattle.std.specs.Prelude.{◌≡◌, ◌+◌, ◌<◌, ◌≤◌, length, take};
-ghost use Rattle.keytable.specs.Nodes.{slot, slots, Nodes, HasNode, FindsNode, Grown};
+ghost use Rattle.std.specs.Prelude.{◌≡◌, [], ◌+◌, ◌<◌, ◌≤◌, List, ℕ, length, take};
+ghost use Rattle.keytable.specs.Nodes.{slot, slots, most_nodes, Apart, Nodes, HasNode, FindsNode, Grown};
 
 use rules::Key;
+use std::marker::Model;
 
-// The node of a key, or none.
-#[derive(Clone, Copy)]
-pub enum NodeFound {
-    Node(usize),
-    Nobody,
+// The keys that have nodes, in the order of their numbers: at most the subject's and one for each delegation.
+// A slot's head is one more than its last node, a node's next one more than the one before it in its slot; 0 is none.
+#[derive(Drop)]
+pub struct KeyNodes {
+    keys: [u32; 513],
+    heads: [u16; 64],
+    nexts: [u16; 513],
+    count: usize,
+}
+
+impl Model for KeyNodes {
+    ghost Value = { List ℕ };
+
+    ghost view = { λ s. take s.count s.keys };
+
+    ghost invariant = { λ s. Nodes (take s.count s.keys) s.heads s.nexts × (s.count ≤ most_nodes) };
 }
 
 // The slot of the key.
@@ -18,37 +30,51 @@ fn slot_of(key: Key) -> usize
     ((key.0 / 4096 + key.0 / 64 + key.0 % 64) % 64) as usize
 }
 
-// The node of the key.
-pub fn find_node(keys: &[u32], heads: &[u16], nexts: &[u16], key: Key) -> NodeFound
-    requires { Nodes keys.now heads.now nexts.now }
-    ensures { FindsNode keys.now key result }
-{
-    let begin = slot_of(key);
-    let mut x = heads[begin] as usize;
-    while 0 < x {
-        let v = x - 1;
-        if keys[v] == key.0 {
-            return NodeFound::Node(v);
+impl KeyNodes {
+    // No nodes.
+    pub fn new() -> KeyNodes
+        ensures { result ≡ [] }
+    {
+        KeyNodes {
+            keys: [0; 513],
+            heads: [0; 64],
+            nexts: [0; 513],
+            count: 0,
         }
-        x = nexts[v] as usize;
     }
-    NodeFound::Nobody
-}
 
-// Makes a node for the key unless it has one; answers how many there are then.
-pub fn add_node(keys: &mut [u32], heads: &mut [u16], nexts: &mut [u16], n: usize, key: Key) -> usize
-    requires { Nodes (take n keys.old) heads.old nexts.old × (n < length keys.old) × (n < length nexts.old) × (n < 65535) }
-    ensures grown { Grown (take n keys.old) (take result keys.new) heads.new nexts.new }
-    ensures has { HasNode (take result keys.new) key }
-    ensures few { result ≤ n + 1 }
-{
-    let found = find_node(&keys[..n], heads, nexts, key);
-    let NodeFound::Nobody = found else {
-        return n;
-    };
-    let begin = slot_of(key);
-    keys[n] = key.0;
-    nexts[n] = heads[begin];
-    heads[begin] = (n + 1) as u16;
-    n + 1
+    // The node of the key.
+    pub fn find(&self, key: Key) -> Option<usize>
+        ensures finds { FindsNode self.now key result }
+        ensures apart { Apart self.now }
+        ensures few { length self.now ≤ most_nodes }
+    {
+        let mut x = self.heads[slot_of(key)] as usize;
+        while 0 < x {
+            let v = x - 1;
+            if self.keys[v] == key.0 {
+                return Some(v);
+            }
+            x = self.nexts[v] as usize;
+        }
+        None
+    }
+
+    // Makes a node for the key unless it has one.
+    pub fn add(&mut self, key: Key)
+        requires { length self.old < most_nodes }
+        ensures grown { Grown self.old self.new }
+        ensures has { HasNode self.new key }
+        ensures few { length self.new ≤ length self.old + 1 }
+    {
+        if self.find(key).is_some() {
+            return;
+        }
+        let begin = slot_of(key);
+        let n = self.count;
+        self.keys[n] = key.0;
+        self.nexts[n] = self.heads[begin];
+        self.heads[begin] = (n + 1) as u16;
+        self.count = n + 1;
+    }
 }

@@ -1,29 +1,43 @@
 -- `load_asked` reads the version and the two sections one behind the other, and looks for spare bytes.
-use Rattle.records.proofs.KeyRecordsForm.{key_access_walks}
-use Rattle.table.proofs.SectionsLaws.{version_within, section_within}
-use Rattle.keytable.proofs.LoadingLaws.{told_fault, table_long, version_bad, accesses_bad, delegations_bad, table_more, table_found}
+use Rattle.std.proofs.lemmas.Result.{err_from_is_err_and}
+use Rattle.records.proofs.FieldsLaws.{field_got, field_bad}
+use Rattle.keytable.proofs.LoadingLaws.{version_ends, at_after, table_long, version_bad, accesses_bad, delegations_bad, table_more, table_found}
 use Rattle.keytable.proofs.load_asked.Goals as goal
 
 pub returns-then-table-gt-MOST_KEY_TABLE : goal.returns-then-table-gt-MOST_KEY_TABLE
-returns-then-table-gt-MOST_KEY_TABLE c = let both = told_fault _ _ _ _ c.none_kept.ensures (table_long _ _ _ c.if-table-gt-MOST_KEY_TABLE.true c.fault_at.ensures) in record { read = both.0; kept = both.1 }
+returns-then-table-gt-MOST_KEY_TABLE c = table_long _ _ c.if-table-gt-MOST_KEY_TABLE.true c.fault_at.ensures
 
-pub returns-in_default : goal.returns-in_default
-returns-in_default c = let both = told_fault _ _ _ _ c.none_kept-in_default.ensures (version_bad _ _ c.if-table-gt-MOST_KEY_TABLE.false _ c.read_version-version.ensures _ _ c.in_default.is c.field_fault.ensures) in record { read = both.0; kept = both.1 }
+pub returns-in_err-begin : goal.returns-in_err-begin
+returns-in_err-begin c =
+    let p = err_from_is_err_and c.from_residual.result c.from_residual.ensures.1 in
+    rw (p.1, p.2) (version_bad _ c.if-table-gt-MOST_KEY_TABLE.false _ (field_bad _ _ _ c.read_version.ensures c.in_err-begin.ensures))
 
-pub load_accesses-found-requires : goal.load_accesses-found-requires
-load_accesses-found-requires c = (c.requires.0, (version_within _ _ _ _ _ c.read_version-version.ensures c.in-Value.is), c.if-table-gt-MOST_KEY_TABLE.false)
+pub load_section-requires : goal.load_section-requires
+load_section-requires c = (c.requires.0, version_ends _ _ _ _ (field_got _ _ _ _ c.read_version.ensures c.in_ok-begin.ensures), c.if-table-gt-MOST_KEY_TABLE.false)
 
-pub returns-in_default-first : goal.returns-in_default-first
-returns-in_default-first c = let both = told_fault _ _ _ _ c.none_kept-in_default-first.ensures (accesses_bad _ _ c.if-table-gt-MOST_KEY_TABLE.false _ c.read_version-version.ensures _ _ c.in-Value.is _ c.load_accesses-found.ensures.read _ _ c.in_default-first.is c.section_fault.ensures) in record { read = both.0; kept = both.1 }
+pub returns-in_err-first : goal.returns-in_err-first
+returns-in_err-first c =
+    let p = err_from_is_err_and c.from_residual-in_err-first.result c.from_residual-in_err-first.ensures.1 in
+    rw (p.1, p.2) (accesses_bad _ c.if-table-gt-MOST_KEY_TABLE.false _ _ (field_got _ _ _ _ c.read_version.ensures c.in_ok-begin.ensures) _ c.in_err-first.ensures.read)
 
-pub load_delegations-found-requires : goal.load_delegations-found-requires
-load_delegations-found-requires c = (c.requires.1, (section_within _ _ (λ earlier. key_access_walks) _ _ _ _ _ (version_within _ _ _ _ _ c.read_version-version.ensures c.in-Value.is) c.load_accesses-found.ensures.read c.in-Section.is).1, c.if-table-gt-MOST_KEY_TABLE.false)
+pub returns-in_err-second : goal.returns-in_err-second
+returns-in_err-second c =
+    let p = err_from_is_err_and c.from_residual-in_err-second.result c.from_residual-in_err-second.ensures.1 in
+    let r = c.in_ok-first.ensures.read in
+    rw (p.1, p.2) (delegations_bad _ c.if-table-gt-MOST_KEY_TABLE.false _ _ (field_got _ _ _ _ c.read_version.ensures c.in_ok-begin.ensures) _ _ (at_after r.2 r.3.1) _ c.in_err-second.ensures.read)
 
-pub returns-in_default-second : goal.returns-in_default-second
-returns-in_default-second c = let both = told_fault _ _ _ _ c.none_kept-in_default-second.ensures (delegations_bad _ _ c.if-table-gt-MOST_KEY_TABLE.false _ c.read_version-version.ensures _ _ c.in-Value.is _ c.load_accesses-found.ensures.read _ _ c.in-Section.is _ c.load_delegations-found.ensures.read _ _ c.in_default-second.is c.section_fault-in_default-second.ensures) in record { read = both.0; kept = both.1 }
-
-pub returns-then-end-table : goal.returns-then-end-table
-returns-then-end-table c = let both = table_found _ _ c.if-table-gt-MOST_KEY_TABLE.false _ c.read_version-version.ensures _ _ c.in-Value.is _ c.load_accesses-found.ensures.read _ _ c.in-Section.is _ c.load_delegations-found.ensures.read _ _ c.in-Section-second.is (λ p d g h. record { accesses = c.load_accesses-found.ensures.kept p _ g; delegations = c.load_delegations-found.ensures.kept d _ h }) c.if-end-table.true in record { read = both.0; kept = both.1 }
+pub returns-then-second-table : goal.returns-then-second-table
+returns-then-second-table c =
+    let r = c.in_ok-first.ensures.read in
+    let t = c.in_ok-second.ensures.read in
+    table_more _ c.if-table-gt-MOST_KEY_TABLE.false _ _ (field_got _ _ _ _ c.read_version.ensures c.in_ok-begin.ensures) _ _ (at_after r.2 r.3.1) _ _ (at_after t.2 t.3.1) _ c.if-second-table.true c.fault_at-then-second-table.ensures
 
 pub returns : goal.returns
-returns c = let both = told_fault _ _ _ _ c.none_kept-2.ensures (table_more _ _ c.if-table-gt-MOST_KEY_TABLE.false _ c.read_version-version.ensures _ _ c.in-Value.is _ c.load_accesses-found.ensures.read _ _ c.in-Section.is _ c.load_delegations-found.ensures.read _ _ c.in-Section-second.is _ c.if-end-table.false c.fault_at-2.ensures) in record { read = both.0; kept = both.1 }
+returns c =
+    let r = c.in_ok-first.ensures.read in
+    let t = c.in_ok-second.ensures.read in (
+      record { accesses = r.0; delegations = t.0 },
+      c.in_ok-second.second.after,
+      table_found _ c.if-table-gt-MOST_KEY_TABLE.false _ _ (field_got _ _ _ _ c.read_version.ensures c.in_ok-begin.ensures) _ _ (at_after r.2 r.3.1) _ _ (at_after t.2 t.3.1) c.if-second-table.false,
+      (λ i. record { accesses = r.3.0 i; delegations = t.3.0 i }, record { accesses = r.3.2; delegations = t.3.2 }),
+    )

@@ -1,0 +1,7 @@
+-- The record is held against what is asked.
+use Rattle.keytable.specs.Keeping.{is_asked}
+use Rattle.keytable.proofs.delegations.KeyDelegationKeyRecord.pass.Goals as goal
+
+pub returns : goal.returns
+unfolding is_asked
+returns c = c.pass_key_delegation.ensures
