@@ -12,7 +12,7 @@ pub struct KeyNodes {
     keys: [u32; 513],
     heads: [u16; 64],
     nexts: [u16; 513],
-    count: usize,
+    count: u16,
 }
 
 impl Model for KeyNodes {
@@ -71,10 +71,10 @@ impl KeyNodes {
             return;
         }
         let begin = slot_of(key);
-        let n = self.count;
+        let n = usize::from(self.count);
         self.keys[n] = key.0;
         self.nexts[n] = self.heads[begin];
-        self.heads[begin] = (n + 1) as u16;
-        self.count = n + 1;
+        self.count += 1;
+        self.heads[begin] = self.count;
     }
 }
