@@ -60,11 +60,11 @@ module _ (keys heads nexts : List ℕ) (n : ℕ) (w : Nodes (take n keys) heads 
   shown : entry (take n keys) (x - 1) ≡ entry keys (x - 1)
   shown = get_or-take n keys (x - 1) 0 (omega (arith, seeking_below (take n keys) heads nexts w k x sk h, length-take n keys))
 
-  pub row_found : entry keys (x - 1) ≡ k.0 → FindsNode (take n keys) k (Some (x - 1))
-  row_found e = seeking_found (take n keys) heads nexts w k x sk h (shown ∙ e)
+  pub row_found : (v : ℕ) → v ≡ x - 1 → entry keys v ≡ k.0 → FindsNode (take n keys) k (Some v)
+  row_found v is e = rw is (seeking_found (take n keys) heads nexts w k x sk h (shown ∙ (rw is at e)))
 
-  pub row_on : (entry keys (x - 1) ≡ k.0 → ⊥) → Seeking (take n keys) k.0 (entry nexts (x - 1))
-  row_on m = seeking_on (take n keys) heads nexts w k x sk h (λ e. m (sym shown ∙ e))
+  pub row_on : (v next : ℕ) → v ≡ x - 1 → next ≡ entry nexts v → (entry keys v ≡ k.0 → ⊥) → Seeking (take n keys) k.0 next
+  row_on v next is leads m = rw (leads, is) (seeking_on (take n keys) heads nexts w k x sk h (λ e. m (rw is (sym shown ∙ e))))
 
 -- ---- adding
 pub nodes_none : (heads nexts : List ℕ) → length heads ≡ slots → ((s : ℕ) → s < slots → entry heads s ≡ 0) → Nodes [] heads nexts

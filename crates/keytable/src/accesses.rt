@@ -28,6 +28,8 @@ impl KeyRecord for KeyAccess {
 
     ghost walks = { key_access_walks };
 
+    // Always in its callers: a frame of its own would take stack that the key decision does not have.
+    #[inline(always)]
     fn read(rest: &[u8]) -> Result<(KeyAccess, usize), Fault> {
         match read_key_access(rest) {
             KeyAccessRead::KeyAccess(access, taken) => Ok((access, taken)),

@@ -28,6 +28,8 @@ impl KeyRecord for KeyDelegation {
 
     ghost walks = { key_delegation_walks };
 
+    // Always in its callers: a frame of its own would take stack that the key decision does not have.
+    #[inline(always)]
     fn read(rest: &[u8]) -> Result<(KeyDelegation, usize), Fault> {
         match read_key_delegation(rest) {
             KeyDelegationRead::KeyDelegation(delegation, taken) => Ok((delegation, taken)),

@@ -49,13 +49,12 @@ impl KeyNodes {
         ensures apart { Apart self.now }
         ensures few { length self.now ≤ most_nodes }
     {
-        let mut x = self.heads[slot_of(key)] as usize;
-        while 0 < x {
-            let v = x - 1;
+        let mut x = usize::from(self.heads[slot_of(key)]);
+        while let Some(v) = x.checked_sub(1) {
             if self.keys[v] == key.0 {
                 return Some(v);
             }
-            x = self.nexts[v] as usize;
+            x = usize::from(self.nexts[v]);
         }
         None
     }

@@ -3,8 +3,8 @@ use lib.ListN.{take}
 use Rattle.keytable.proofs.NodesLaws.{Seeking}
 use Rattle.keytable.proofs.nodes.KeyNodes.find.Given as goal
 
-abbrev pub invariant-loop-x : goal.invariant-loop-x
-invariant-loop-x l = Seeking (take l.self-inside.count l.self-inside.keys) l.key.0 l.x
+abbrev pub invariant-loop-v : goal.invariant-loop-v
+invariant-loop-v l = Seeking (take l.self-inside.count l.self-inside.keys) l.key.0 l.x
 
-abbrev pub decreases-loop-x : goal.decreases-loop-x
-decreases-loop-x l = l.x
+abbrev pub decreases-loop-v : goal.decreases-loop-v
+decreases-loop-v l = l.x
