@@ -12,9 +12,8 @@ ghost use Rattle.keytable.specs.Matching.{key_request_of};
 ghost use Rattle.keytable.specs.Settling.{Codes, Settles, answer_of};
 
 use crate::KeyAnswer;
-use crate::collecting::collect;
+use crate::collecting::{KeptTable, collect};
 use reach::reach;
-use records::requests::KeyRequest;
 use rules::{Depth, Made};
 
 // The greatest code of node 0.
@@ -28,14 +27,14 @@ fn first_code(edges: &[u32], best: &mut [u8]) -> u8
 }
 
 // The code of the greatest depth that the subject has.
-pub fn greatest_code(table: &[u8], accesses: &[u16], delegations: &[u16], request: KeyRequest) -> u8
-    requires { Known table.now (key_request_of request).asked accesses.now delegations.now }
-    ensures decides { DecidesByKeys (key_table_at table.now) (key_request_of request) (verdict_of result) }
+pub fn greatest_code(kept: &KeptTable<'_>) -> u8
+    requires { Known kept.now.table.now (key_request_of kept.now.request).asked kept.now.accesses.now kept.now.delegations.now }
+    ensures decides { DecidesByKeys (key_table_at kept.now.table.now) (key_request_of kept.now.request) (verdict_of result) }
     ensures most { result ≤ suc top }
 {
     let mut edges = [0; 512];
     let mut best = [0; 513];
-    let m = collect(table, accesses, delegations, request, &mut edges, &mut best);
+    let m = collect(kept, &mut edges, &mut best);
     first_code(&edges[..m], &mut best)
 }
 

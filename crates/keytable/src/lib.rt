@@ -9,6 +9,7 @@ ghost use Rattle.keytable.specs.Keeping.{asked_in, Tells, KeysKept};
 ghost use Rattle.keytable.specs.Matching.{key_request_of};
 ghost use Rattle.keytable.specs.Deciding.{KeyDecides};
 
+use crate::collecting::KeptTable;
 use crate::deciding::{answer_of, greatest_code};
 use crate::loading::{load_section, told};
 use records::faults::{Fault, Kind, fault_at};
@@ -132,12 +133,12 @@ pub fn decide_by_keys(table: &[u8], request: &[u8]) -> KeyAnswer
         Err(fault) => KeyAnswer::Fault(fault),
         Ok(found) => match read {
             KeyRequestRead::Not => KeyAnswer::Request,
-            KeyRequestRead::KeyRequest(_) => answer_of(greatest_code(
+            KeyRequestRead::KeyRequest(_) => answer_of(greatest_code(&KeptTable {
                 table,
-                &accesses[..found.accesses],
-                &delegations[..found.delegations],
-                asked,
-            )),
+                accesses: &accesses[..found.accesses],
+                delegations: &delegations[..found.delegations],
+                request: asked,
+            })),
         },
     }
 }

@@ -4,4 +4,4 @@ use Rattle.keytable.specs.Matching.{key_request_of, Given}
 use Rattle.keytable.proofs.collecting.collect_codes.Given as goal
 
 abbrev pub invariant-loop-place : goal.invariant-loop-place
-invariant-loop-place l = Given (asked_at l.table (key_request_of l.request).asked) (key_request_of l.request).asked l.nodes l.place-index l.best
+invariant-loop-place l = Given (asked_at l.kept.table.now (key_request_of l.kept.request).asked) (key_request_of l.kept.request).asked l.nodes l.place-index l.best

@@ -6,4 +6,4 @@ use Rattle.keytable.specs.Matching.{key_request_of, DrawnOf}
 use Rattle.keytable.proofs.collecting.collect_edges.Given as goal
 
 abbrev pub invariant-loop-place : goal.invariant-loop-place
-invariant-loop-place l = DrawnOf (asked_at l.table (key_request_of l.request).asked) (key_request_of l.request).asked l.nodes l.place-index (take l.m l.edges) × (l.m ≤ l.place-index)
+invariant-loop-place l = DrawnOf (asked_at l.kept.table.now (key_request_of l.kept.request).asked) (key_request_of l.kept.request).asked l.nodes l.place-index (take l.m l.edges) × (l.m ≤ l.place-index)

@@ -5,4 +5,4 @@ use Rattle.keytable.proofs.CollectingLaws.{Collecting}
 use Rattle.keytable.proofs.collecting.collect_nodes.Given as goal
 
 abbrev pub invariant-loop-place : goal.invariant-loop-place
-invariant-loop-place l = Collecting (asked_at l.table (key_request_of l.request).asked) (key_request_of l.request).asked l.initial.nodes l.nodes l.place-index
+invariant-loop-place l = Collecting (asked_at l.kept.table.now (key_request_of l.kept.request).asked) (key_request_of l.kept.request).asked l.initial.nodes l.nodes l.place-index

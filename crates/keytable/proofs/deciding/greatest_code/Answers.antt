@@ -19,4 +19,4 @@ first_code-requires c = (
 )
 
 pub returns : goal.returns
-returns c = record { decides = asked_decides (key_table_at c.args.table.now) (key_request_of c.args.request) _ (c.first_code.ensures.verdict _ _ c.collect-m.ensures.matched); most = c.first_code.ensures.most }
+returns c = record { decides = asked_decides (key_table_at c.args.kept.now.table.now) (key_request_of c.args.kept.now.request) _ (c.first_code.ensures.verdict _ _ c.collect-m.ensures.matched); most = c.first_code.ensures.most }
