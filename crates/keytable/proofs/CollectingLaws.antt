@@ -8,13 +8,11 @@ use lib.ListN.{length, set}
 use lib.Seq.{get_or-set_same, get_or-set_other}
 use Rattle.rules.specs.Lists.{At, ◌▷◌}
 use Rattle.rules.specs.Depths.{top}
-use Rattle.rules.specs.Ranges.{most_delegations}
 use Rattle.rules.specs.Sheets.{entry}
 use Rattle.rules.specs.Tables.{Asked}
 use Rattle.rules.specs.KeyTables.{KeyAccess, KeyDelegation, KeyTable, KeyRequest, key_setting}
 use Rattle.rules.specs.declared.Key.{Key}
 use Rattle.reach.specs.Edges.{froms, tos, depths_of}
-use Rattle.keytable.specs.Keeping.{Known}
 use Rattle.keytable.specs.Nodes.{Empty, IsNode, HasNode, Apart, Grown}
 use Rattle.keytable.specs.Matching.{WriterHas, EdgeTurn, drawn, left, CodeTurn, given, enough, Writers, Edge, Drawn, Given, Matched, DrawnOf}
 use Rattle.keytable.proofs.RowsLaws.{longer, entry_before, entry_last}
@@ -50,17 +48,11 @@ module _ (K : KeyTable) (q : Asked Key) where
     few = omega (arith, c.few, h);
   }
 
-  pub writers_all : (nodes : List ℕ) (i n : ℕ) → Writers K q nodes i → i ≡ n → Writers K q nodes n
-  writers_all nodes i n w e = rw (← e) w
-
   module _ (nodes : List ℕ) where
     -- ---- edges
     pub drawn_none : DrawnOf K q nodes 0 []
     unfolding froms tos depths_of
     drawn_none = record { same_to = refl; same_depths = refl; sound = λ e h. absurd (omega arith); all = λ j d u v k k' h w a b. absurd (omega arith) }
-
-    pub drawn_all : (i n : ℕ) (from to depths : List ℕ) → Drawn K q nodes i from to depths → i ≡ n → Drawn K q nodes n from to depths
-    drawn_all i n from to depths w e = rw (← e) w
 
     module _ (i : ℕ) (x : KeyDelegation) (at : At K.delegations i x) (from to depths : List ℕ) (w : Drawn K q nodes i from to depths) (apart : Apart nodes) where
       -- An edge stays as one more is drawn.
@@ -137,9 +129,6 @@ module _ (K : KeyTable) (q : Asked Key) where
       all = λ j d v k h r a. absurd (omega arith);
     }
 
-    pub given_all : (i n : ℕ) (best : List ℕ) → Given K q nodes i best → i ≡ n → Given K q nodes n best
-    given_all i n best w e = rw (← e) w
-
     module _ (i : ℕ) (x : KeyAccess) (at : At K.accesses i x) (small : x.depth ≤ top) (best : List ℕ) (few : length nodes ≤ length best) (w : Given K q nodes i best) (apart : Apart nodes) where
       pub given_more : (best' : List ℕ) → CodeTurn q nodes x best best' → Given K q nodes (i + 1) best'
       given_more _ (enough g) = record { codes = w.codes; sound = w.sound; all = λ j d v k h r a. go j d v k h r a (ℕ_discrete j i) }
@@ -186,10 +175,6 @@ module _ (K : KeyTable) (q : Asked Key) where
           go j d v k r a (no n) old = omega (arith, old n, rises v (ℕ_discrete v u))
 
 -- ---- all of them
--- The subject's node comes first, and then at most one for each delegation.
-pub nodes_room : (s : List ℕ) (q : Asked Key) (accesses delegations : List ℕ) (one : ℕ) → Known s q accesses delegations → one ≤ 1 → one + length delegations ≤ suc most_delegations
-nodes_room s q accesses delegations one w h = omega (arith, h, w.delegations.counted, w.good.few_delegations)
-
 pub all_matched : (K : KeyTable) (r : KeyRequest) (first nodes : List ℕ) → length first ≤ 1 → HasNode first r.subject → Grown first nodes → Writers K r.asked nodes (length K.delegations)
     → (from to depths best : List ℕ) → length nodes ≤ length best → Drawn K r.asked nodes (length K.delegations) from to depths → Given K r.asked nodes (length K.accesses) best
     → Matched K r from to depths best

@@ -12,27 +12,14 @@ use Rattle.rules.specs.Verdicts.{Verdict, Has, greatest, nothing, DecidesByKeys}
 use Rattle.rules.specs.declared.Key.{Key}
 use Rattle.rules.proofs.AccessLaws.{granted_within}
 use Rattle.wire.specs.Number.{Bytes}
-use Rattle.records.specs.Parsed.{Parsed, got, bad}
+use Rattle.records.specs.Parsed.{got}
 use Rattle.records.specs.KeyRecords.{key_access_record, key_delegation_record}
-use Rattle.records.specs.declared.faults.Fault.{Fault}
 use Rattle.table.specs.ReadKeyTable.{KeyLaid, key_table_of, read_key_table}
 use Rattle.table.proofs.Theorems.{key_table_form}
-use Rattle.keytable.specs.Loading.{key_sections_of, key_loaded_of, key_table_in, key_table_at}
+use Rattle.keytable.specs.Loading.{key_table_in, key_table_at}
 use Rattle.keytable.specs.Keeping.{access_asked, delegation_asked, sift, asked_of, asked_at, Placed, KeysKept, Known}
-use Rattle.keytable.specs.declared.KeySections.{KeySections}
-use Rattle.keytable.specs.declared.KeyLoaded.{KeyLoaded}
-use Rattle.keytable.specs.declared.KeyLoaded.TheVariants as loaded
 use Rattle.keytable.proofs.MatchingLaws.{asks_all}
 use Rattle.keytable.proofs.SiftingLaws.{sift_few, sift_from, sift_to, placed_first}
-
--- ---- what was read
-pub loaded_bad : (p : Parsed KeyLaid) (r : KeyLoaded) (e : Fault) → r ≡ key_loaded_of p → r ≡ loaded.Bad e → p ≡ bad e
-loaded_bad (got l at) r e a b = let z : ◌≡◌ {A = ℕ} 0 1 = cc in absurd (omega arith)
-loaded_bad (bad f) r e a b = let q : f ≡ e = cc in ap bad q
-
-pub loaded_good : (p : Parsed KeyLaid) (r : KeyLoaded) (x : KeySections) → r ≡ key_loaded_of p → r ≡ loaded.Good x → (l : KeyLaid) × (end : ℕ) × (p ≡ got l end) × (key_sections_of l ≡ x)
-loaded_good (got l at) r x a b = let q : key_sections_of l ≡ x = cc in (l, at, refl, q)
-loaded_good (bad f) r x a b = let z : ◌≡◌ {A = ℕ} 0 1 = cc in absurd (omega arith)
 
 -- ---- the records that are for what is asked
 pub asked_good : (K : KeyTable) (q : Asked Key) → GoodKeyTable K → GoodKeyTable (asked_of K q)

@@ -1,5 +1,4 @@
 -- Laws of key tables.
-pub mod AnswersLaws
 pub mod LoadingLaws
 pub mod KnownLaws
 pub mod SiftingLaws

@@ -1,6 +1,6 @@
 -- A record matches if its owner, object and right are those that are asked; then the rules know it, and only then.
 use mathlib.Core.Path.{◌≡◌, refl, sym, ◌∙◌, ap, subst}
-use mathlib.Core.Bool.{Bool, true, false, not}
+use mathlib.Core.Bool.{Bool, true, false}
 use mathlib.Core.List.{List}
 use Rattle.std.specs.Prelude.{Option, Some, None}
 use Prim.Native.Nat.{ℕ, suc, ◌+◌, ◌<◌, ◌≤◌}
@@ -24,15 +24,6 @@ use Rattle.keytable.proofs.RowsLaws.{written_last}
 
 pub same_key : {k m : Key} → k.0 ≡ m.0 → k ≡ m
 same_key e = λ i. record { 0 = e i }
-
--- ---- a test turned round
-pub is_not : {b : Bool} → not b ≡ true → b ≡ false
-is_not {b = true} e = let z : ◌≡◌ {A = ℕ} 0 1 = cc in absurd (omega arith)
-is_not {b = false} e = refl
-
-pub is_so : {b : Bool} → not b ≡ false → b ≡ true
-is_so {b = true} e = refl
-is_so {b = false} e = let z : ◌≡◌ {A = ℕ} 0 1 = cc in absurd (omega arith)
 
 -- ---- whether a record is for what is asked
 module _ (q : Asked Key) (owner : Key) (object right : ℕ) where

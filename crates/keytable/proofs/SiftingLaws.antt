@@ -2,8 +2,8 @@
 use mathlib.Core.Path.{◌≡◌, refl, sym, ◌∙◌, ap, subst, subst₂}
 use mathlib.Core.Bool.{Bool, true, false}
 use mathlib.Core.List.{List, [], ◌∷◌}
-use Rattle.std.specs.Prelude.{Ok, Err}
-use Prim.Native.Nat.{ℕ, zero, suc, ◌+◌, ◌/◌, ◌%◌, ◌<◌, ◌≤◌}
+use Rattle.std.specs.Prelude.{Ok}
+use Prim.Native.Nat.{ℕ, zero, suc, ◌+◌, ◌<◌, ◌≤◌}
 use native.Mathlib.Nat.{le_refl, not-suc-le-zero, le_of_suc-le-suc}
 use native.Mathlib.Omega.{arith}
 use lib.ListN.{length, take, get_or, set, length-append, length-set}
@@ -11,16 +11,15 @@ use lib.Seq.{length-take-le, get_or-take, get_or-set_other}
 use Rattle.rules.specs.Choice.{pick}
 use Rattle.rules.specs.Lists.{At, ◌▷◌}
 use Rattle.rules.proofs.ListsLaws.{at_tail}
-use Rattle.records.specs.Parsed.{Parsed, got, bad, Reader, moved_fault}
+use Rattle.records.specs.Parsed.{Parsed, got, bad, Reader}
 use Rattle.records.specs.Many.{many}
-use Rattle.records.specs.Passing.{Sifts}
 use Rattle.records.specs.declared.faults.Fault.{Fault}
 use Rattle.records.proofs.FormatLaws.{Walks}
 use Rattle.records.proofs.ManyLaws.{going_bad, going_end}
 use Rattle.table.specs.Kept.{Standing}
 use Rattle.table.proofs.FindingLaws.{at_below}
 use Rattle.table.proofs.KeptLaws.{standing_none, standing_more}
-use Rattle.table.proofs.LoadingLaws.{rest, there_got, there_bad, there_back, Reading, reading_start, reading_next}
+use Rattle.table.proofs.LoadingLaws.{Reading, reading_start, reading_next}
 use Rattle.keytable.specs.Keeping.{sift, Placed, Tells, Sifted}
 use Rattle.keytable.specs.declared.loading.AfterKept.{AfterKept}
 
@@ -91,28 +90,6 @@ module _ {A : Type 0} (P : Reader A) (s : List ℕ) where
     };
   }
 
--- ---- one record, read from the rest of the bytes
-module _ {A : Type 0} (P : Reader A) (walks : Walks P) (s : List ℕ) (at : ℕ) (h : at ≤ length s) where
-  -- The place after it is within the bytes, and so is the place of its fault.
-  pub one_fits : (x : A) (t : ℕ) → P (rest s at) 0 ≡ got x t → at + t ≤ length s
-  one_fits x t e = (there_got (λ e. P) (λ e. walks) s [] at h x t e).1
-
-  pub one_moves : (e : Fault) → P (rest s at) 0 ≡ bad e → at + e.place.offset ≤ length s
-  one_moves e q = (there_bad (λ e. P) (λ e. walks) s [] at h e q).1
-
-  module _ (f : A → Bool) where
-    -- It is good.
-    pub sifted_got : (x : A) (t m : ℕ) → P (rest s at) 0 ≡ got x t → m ≡ pick (f x) 1 0 → Sifted P f s at (Ok (record { after = at + t; kept = m }))
-    sifted_got x t m e k = (x, at + t, (there_got (λ e. P) (λ e. walks) s [] at h x t e).0, (refl, k))
-
-    -- It has a fault.
-    pub sifted_bad : (e g : Fault) → P (rest s at) 0 ≡ bad e → g ≡ moved_fault at e → Sifted P f s at (Err g)
-    sifted_bad e g q k = (there_bad (λ e. P) (λ e. walks) s [] at h e q).0 ∙ ap bad (sym k)
-
--- It is passed over.
-pub sifted_told : {A : Type 0} (P : Reader A) (f : A → Bool) (s : List ℕ) (at r : ℕ) → Sifts P f s at r → 0 < r → Sifted P f s at (Ok (record { after = r / 2; kept = r % 2 }))
-sifted_told P f s at r w told = let g = w.good told in (g.0, r / 2, g.1, (refl, g.2))
-
 -- ---- so many records
 module _ {A : Type 0} (P : Reader A) (walks : Walks P) (f : A → Bool) (s : List ℕ) where
   -- Of `count` records from `from` on, `i` were read; `n` of them pass, and their places are kept.
@@ -181,18 +158,6 @@ module _ {A : Type 0} (P : Reader A) (walks : Walks P) (f : A → Bool) (s : Lis
                           (standing_still P s places (sift f r.earlier) at r.standing),
                     )
 
--- ---- reading again at a place
-module _ {A : Type 0} (P : Reader A) (walks : Walks P) (s : List ℕ) (at : ℕ) (h : at ≤ length s) (found : (x : A) × (next : ℕ) × (P s at ≡ got x next)) where
-  pub again_well : (g : Fault) → P (rest s at) 0 ≡ bad g → ⊥
-  again_well g e =
-      let b = there_back (λ earlier. P) (λ earlier. walks) s [] at h found.0 found.1 found.2 in
-      let q : ◌≡◌ {A = Parsed A} (got found.0 b.0) (bad g) = sym b.1 ∙ e in
-      let z : ◌≡◌ {A = ℕ} 0 1 = cc q in
-      absurd (omega arith)
-
-  pub again_got : (x y : A) (n : ℕ) → P (rest s at) 0 ≡ got x n → x ≡ y → (next : ℕ) × (P s at ≡ got y next)
-  again_got x y n e q = (at + n, (there_got (λ earlier. P) (λ earlier. walks) s [] at h x n e).0 ∙ ap (λ (z : A). got z (at + n)) q)
-
 -- ---- a place that is kept: the record of its number stands there
 module _ {A : Type 0} (P : Reader A) (s places : List ℕ) (count : ℕ) (l : List A) (w : Placed P s places count l) (i : ℕ) (h : i < count) where
   pub placed_stands : (get_or places i 0 ≤ length s) × (x : A) × (next : ℕ) × (P s (get_or places i 0) ≡ got x next)
@@ -208,6 +173,3 @@ module _ {A : Type 0} (P : Reader A) (s places : List ℕ) (count : ℕ) (l : Li
       let q : ◌≡◌ {A = Parsed A} (got a.0 r.0) (got x n) = sym r.1 ∙ e in
       let u : a.0 ≡ x = cc q in
       subst (At l i) u a.1
-
-pub placed_end : {A : Type 0} (P : Reader A) (s places : List ℕ) (count : ℕ) (l : List A) → Placed P s places count l → (i : ℕ) → i ≤ count → count ≤ i → i ≡ length l
-placed_end P s places count l w i h g = omega (arith, h, g, w.counted)
