@@ -2,7 +2,7 @@
 use mathlib.Core.Path.{◌≡◌, refl, sym, ◌∙◌, ap, subst, subst₂}
 use mathlib.Core.Bool.{Bool, true, false}
 use mathlib.Core.List.{List, [], ◌∷◌}
-use Rattle.std.specs.Prelude.{Ok}
+use Rattle.std.specs.Prelude.{Ok, Err}
 use Prim.Native.Nat.{ℕ, zero, suc, ◌+◌, ◌<◌, ◌≤◌}
 use native.Mathlib.Nat.{le_refl, not-suc-le-zero, le_of_suc-le-suc}
 use native.Mathlib.Omega.{arith}
@@ -11,17 +11,17 @@ use lib.Seq.{length-take-le, get_or-take, get_or-set_other}
 use Rattle.rules.specs.Choice.{pick}
 use Rattle.rules.specs.Lists.{At, ◌▷◌}
 use Rattle.rules.proofs.ListsLaws.{at_tail}
-use Rattle.records.specs.Parsed.{Parsed, got, bad, Reader}
+use Rattle.records.specs.Parsed.{Parsed, got, Reader, found_as}
 use Rattle.records.specs.Many.{many}
 use Rattle.records.specs.declared.faults.Fault.{Fault}
 use Rattle.records.proofs.FormatLaws.{Walks}
 use Rattle.records.proofs.ManyLaws.{going_bad, going_end}
+use Rattle.records.proofs.ParsedLaws.{found_got, found_bad, as_got, as_bad}
 use Rattle.table.specs.Kept.{Standing}
 use Rattle.table.proofs.FindingLaws.{at_below}
 use Rattle.table.proofs.KeptLaws.{standing_none, standing_more}
-use Rattle.table.proofs.LoadingLaws.{Reading, reading_start, reading_next}
-use Rattle.keytable.specs.Keeping.{sift, Placed, Tells, Sifted}
-use Rattle.keytable.specs.declared.loading.AfterKept.{AfterKept}
+use Rattle.table.proofs.LoadingLaws.{Besides, ill, well, Reading, reading_start, reading_next}
+use Rattle.keytable.specs.Keeping.{sift, sifted, Placed}
 
 -- ---- what passes
 module _ {A : Type 0} (f : A → Bool) where
@@ -91,6 +91,9 @@ module _ {A : Type 0} (P : Reader A) (s : List ℕ) where
   }
 
 -- ---- so many records
+sifted_apart : {A : Type 0} (f : A → Bool) (e : Fault) (l : List A) (at : ℕ) → Err e ≡ found_as (sifted f) (got l at) → ⊥
+sifted_apart f e l at h = let z : ◌≡◌ {A = ℕ} 0 1 = cc in absurd (omega arith)
+
 module _ {A : Type 0} (P : Reader A) (walks : Walks P) (f : A → Bool) (s : List ℕ) where
   -- Of `count` records from `from` on, `i` were read; `n` of them pass, and their places are kept.
   pub record Sifting (count from room : ℕ) (places : List ℕ) (at i n : ℕ) : Type 0 where
@@ -115,28 +118,29 @@ module _ {A : Type 0} (P : Reader A) (walks : Walks P) (f : A → Bool) (s : Lis
     sifting_few = omega (arith, r.kept, sift_few f r.earlier, r.reading.going.read)
 
     module _ (few : count ≤ room) where
-      pub sifting_end : count ≤ i → Tells {T = AfterKept} (many (λ e. P) count [] s from) (λ l next t. (t.after ≡ next) × Placed P s places t.kept (sift f l)) (Ok (record { after = at; kept = n }))
-      sifting_end h = (
-        r.earlier,
-        at,
-        going_end (λ e. P) s count from i at r.earlier r.reading.going h,
-        (refl, record { counted = r.kept; room = omega (arith, few, sifting_few, r.size, r.reading.most); standing = r.standing }),
-      )
+      pub sifting_end : count ≤ i → Besides (found_as (sifted f)) (λ (l : List A). Placed P s places (sifted f l) (sift f l)) (Ok (n, at)) (many (λ e. P) count [] s from)
+      sifting_end h =
+          let e = going_end (λ e. P) s count from i at r.earlier r.reading.going h in
+          well (found_as (sifted f)) (λ (l : List A). Placed P s places (sifted f l) (sift f l)) (Ok (n, at)) (many (λ e. P) count [] s from) r.earlier at e
+          (record { counted = refl; room = omega (arith, few, sifting_few, r.size, r.reading.most, r.kept); standing = r.standing })
+          (rw r.kept (as_got (sifted f) e))
 
       module _ (h : i < count) where
         pub sifting_room : n < length places
         sifting_room = omega (arith, few, h, sifting_few, r.size)
 
         -- The next has a fault, and so have they all.
-        pub sifting_bad : (e : Fault) → P s at ≡ bad e → many (λ e. P) count [] s from ≡ bad e
-        sifting_bad e q = going_bad (λ e. P) s count from i at r.earlier r.reading.going h e q
+        pub sifting_bad : (e : Fault) → Err e ≡ found_as f (P s at) → Besides (found_as (sifted f)) (λ (l : List A). Placed P s places (sifted f l) (sift f l)) (Err e) (many (λ e. P) count [] s from)
+        sifting_bad e q =
+            ill (found_as (sifted f)) (λ (l : List A). Placed P s places (sifted f l) (sift f l)) (Err e) (many (λ e. P) count [] s from) (sifted_apart f e)
+            (as_bad (sifted f) (going_bad (λ e. P) s count from i at r.earlier r.reading.going h e (found_bad f (P s at) q)))
 
         -- One more is read, and its place is kept if it passes.
-        pub sifting_on : (found : AfterKept) → Sifted P f s at (Ok found) → Sifting count from room (set places n at) found.after (i + 1) (n + found.kept)
-        sifting_on found (x, next, e, (a, k)) = more found.after found.kept (e ∙ ap (got x) (sym a)) k
+        pub sifting_on : (b : Bool) (next : ℕ) → Ok (b, next) ≡ found_as f (P s at) → (m : ℕ) → m ≡ pick b 1 0 → Sifting count from room (set places n at) next (i + 1) (n + m)
+        sifting_on b next q m k = let t = found_got f (P s at) q in one t.0 t.1 (k ∙ ap (λ (b : Bool). pick b 1 0) t.2)
           where
-            more : (next m : ℕ) → P s at ≡ got x next → m ≡ pick (f x) 1 0 → Sifting count from room (set places n at) next (i + 1) (n + m)
-            more next m e k = record {
+            one : (x : A) → P s at ≡ got x next → m ≡ pick (f x) 1 0 → Sifting count from room (set places n at) next (i + 1) (n + m)
+            one x e k = record {
               size = length-set places n at ∙ r.size;
               earlier = r.earlier ▷ x;
               reading = reading_next (λ e. P) (λ e. walks) s count from at i r.earlier r.reading h x next e;

@@ -1,5 +1,5 @@
 -- What reading a key table for a request keeps: where those records stand that are for what is asked.
-use Rattle.std.specs.Prelude.{◌≡◌, Bool, List, [], ◌∷◌, ℕ, ◌≤◌, length, Result, MatchResult}
+use Rattle.std.specs.Prelude.{◌≡◌, Bool, List, [], ◌∷◌, ℕ, ◌≤◌, length, Result, Ok, Err}
 use Rattle.rules.specs.Choice.{pick}
 use Rattle.rules.specs.Ranges.{GoodKeyTable}
 use Rattle.rules.specs.Tables.{Asked}
@@ -9,18 +9,12 @@ use Rattle.records.specs.Parsed.{Parsed, got, bad, Reader}
 use Rattle.records.specs.KeyRecords.{key_access_record, key_delegation_record}
 use Rattle.records.specs.Passing.{is_for}
 use Rattle.records.specs.declared.faults.Fault.{Fault}
-use Rattle.records.specs.declared.requests.KeyRequest.{KeyRequest as KeyRequestValue}
-use Rattle.records.specs.declared.requests.KeyRequestRead.{KeyRequestRead}
-use Rattle.records.specs.declared.requests.KeyRequestRead.TheVariants as asked
+use Rattle.table.specs.Sections.{Part, section_of}
 use Rattle.table.specs.Kept.{Standing}
 use Rattle.table.specs.ReadKeyTable.{KeyLaid}
 use Rattle.keytable.specs.Loading.{key_table_at}
-use Rattle.keytable.specs.declared.loading.AfterKept.{AfterKept}
-
--- What a key request asks; without one, what no record is for, as no key is 0.
-abbrev pub asked_in : KeyRequestRead → KeyRequestValue
-asked_in (asked.KeyRequest r) = r
-asked_in asked.Not = record { subject = record { 0 = 0 }; owner = record { 0 = 0 }; wanted = record { object = 0; right = 0 } }
+use Rattle.keytable.specs.declared.KeyKept.{KeyKept}
+use Rattle.keytable.specs.declared.loading.KeptSection.{KeptSection}
 
 -- Whether a record for this owner, object and right is for what is asked.
 unfoldable pub is_asked : Asked Key → Key → ℕ → ℕ → Bool
@@ -44,13 +38,9 @@ asked_of K q = record { accesses = sift (access_asked q) K.accesses; delegations
 abbrev pub asked_at : List ℕ → Asked Key → KeyTable
 asked_at s q = asked_of (key_table_at s) q
 
--- What is told of a reading: of what was found, and the place after it, or its fault.
-abbrev pub Tells : {A T : Type 0} → Parsed A → (A → ℕ → T → Type 0) → Result T Fault → Type 0
-Tells {A} p K r = MatchResult r (λ t. (x : A) × (next : ℕ) × (p ≡ got x next) × K x next t) (λ e. p ≡ bad e)
-
--- The place after the record at a place, and one if it passes the test, else none; or its fault.
-abbrev pub Sifted : {A : Type 0} → Reader A → (A → Bool) → List ℕ → ℕ → Result AfterKept Fault → Type 0
-Sifted P f s at r = Tells (P s at) (λ x next t. (t.after ≡ next) × (t.kept ≡ pick (f x) 1 0)) r
+-- How many pass the test.
+abbrev pub sifted : {A : Type 0} → (A → Bool) → List A → ℕ
+sifted f l = length (sift f l)
 
 -- The first `n` entries are the places at which the records of the list stand.
 pub record Placed {A : Type 0} (P : Reader A) (s places : List ℕ) (n : ℕ) (l : List A) : Type 0 where
@@ -59,12 +49,21 @@ pub record Placed {A : Type 0} (P : Reader A) (s places : List ℕ) (n : ℕ) (l
   pub standing : Standing P s places l
 
 -- What is kept of the records that were read.
-pub record KeysKept (s : List ℕ) (q : Asked Key) (access_places : List ℕ) (n : ℕ) (delegation_places : List ℕ) (m : ℕ) (l : KeyLaid) : Type 0 where
-  pub accesses : Placed key_access_record s access_places n (sift (access_asked q) l.accesses.records)
-  pub delegations : Placed key_delegation_record s delegation_places m (sift (delegation_asked q) l.delegations.records)
+pub record KeysKept (s : List ℕ) (q : Asked Key) (access_places delegation_places : List ℕ) (l : KeyLaid) : Type 0 where
+  pub accesses : Placed key_access_record s access_places (sifted (access_asked q) l.accesses.records) (sift (access_asked q) l.accesses.records)
+  pub delegations : Placed key_delegation_record s delegation_places (sifted (delegation_asked q) l.delegations.records) (sift (delegation_asked q) l.delegations.records)
 
 -- Good bytes, and where the records stand that are for what is asked.
 pub record Known (s : List ℕ) (q : Asked Key) (access_places delegation_places : List ℕ) : Type 0 where
   pub good : GoodKeyTable (asked_at s q)
   pub accesses : Placed key_access_record s access_places (length access_places) (asked_at s q).accesses
   pub delegations : Placed key_delegation_record s delegation_places (length delegation_places) (asked_at s q).delegations
+
+-- ---- as code answers
+-- A section, and how many of its records pass the test.
+abbrev pub kept_of : {A : Type 0} → (A → Bool) → Part A → KeptSection
+kept_of f p = record { section = section_of p; kept = sifted f p.records }
+
+abbrev pub kept_in : Asked Key → Parsed KeyLaid → Result KeyKept Fault
+kept_in q (got l at) = Ok (record { accesses = kept_of (access_asked q) l.accesses; delegations = kept_of (delegation_asked q) l.delegations })
+kept_in q (bad e) = Err e

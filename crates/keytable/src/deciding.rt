@@ -14,7 +14,7 @@ ghost use Rattle.keytable.specs.Settling.{Codes, Settles, answer_of};
 use crate::KeyAnswer;
 use crate::collecting::{KeptTable, collect};
 use reach::reach;
-use rules::{Depth, Made};
+use rules::Depth;
 
 // The greatest code of node 0.
 fn first_code(edges: &[u32], best: &mut [u8]) -> u8
@@ -46,8 +46,8 @@ pub fn answer_of(code: u8) -> KeyAnswer
     if code == 0 {
         return KeyAnswer::Denied;
     }
-    match Depth::new(code as u32 - 1) {
-        Made::Good(depth) => KeyAnswer::Granted(depth),
-        Made::TooDeep => KeyAnswer::Denied,
+    match Depth::new(u32::from(code) - 1) {
+        Some(depth) => KeyAnswer::Granted(depth),
+        None => KeyAnswer::Denied,
     }
 }

@@ -1,14 +1,15 @@
 // Key delegations, as a kind of key records.
+ghost use Rattle.std.specs.Prelude.{refl};
 ghost use Rattle.rules.specs.Ranges.{most_delegations};
 ghost use Rattle.rules.specs.KeyTables.{KeyDelegation};
-ghost use Rattle.records.specs.KeyRecords.{key_delegation_record, key_delegation_of};
+ghost use Rattle.records.specs.KeyRecords.{key_delegation_record, key_delegation_value, key_delegation_of};
 ghost use Rattle.records.proofs.KeyRecordsForm.{key_delegation_walks};
 ghost use Rattle.keytable.specs.Keeping.{delegation_asked};
 
 use crate::kinds::KeyRecord;
 use crate::matching::is_asked;
 use records::faults::Fault;
-use records::keys::{KeyDelegation, KeyDelegationRead, read_key_delegation};
+use records::keys::{KeyDelegation, read_key_delegation};
 use records::passing::pass_key_delegation;
 use records::requests::KeyRequest;
 use table::loading::MOST_DELEGATIONS;
@@ -18,6 +19,8 @@ impl KeyRecord for KeyDelegation {
 
     ghost meaning = { key_delegation_of };
 
+    ghost value = { key_delegation_value };
+
     ghost reader = { key_delegation_record };
 
     ghost asked = { delegation_asked };
@@ -26,21 +29,16 @@ impl KeyRecord for KeyDelegation {
 
     const MOST: u32 = MOST_DELEGATIONS;
 
+    ghost held = { λ x. refl };
+
     ghost walks = { key_delegation_walks };
 
-    // Always in its callers: a frame of its own would take stack that the key decision does not have.
-    #[inline(always)]
     fn read(rest: &[u8]) -> Result<(KeyDelegation, usize), Fault> {
-        match read_key_delegation(rest) {
-            KeyDelegationRead::KeyDelegation(delegation, taken) => Ok((delegation, taken)),
-            KeyDelegationRead::Fault(fault) => Err(fault),
-        }
+        read_key_delegation(rest)
     }
 
-    fn pass(table: &[u8], at: usize, request: KeyRequest) -> usize {
-        let owner = request.owner;
-        let wanted = request.wanted;
-        pass_key_delegation(table, at, owner.0, wanted.object, wanted.right)
+    fn pass(table: &[u8], at: usize, request: KeyRequest) -> Option<(usize, bool)> {
+        pass_key_delegation(table, at, request.owner, request.wanted)
     }
 
     fn is_asked(self, request: KeyRequest) -> bool {

@@ -1,11 +1,10 @@
 // The two kinds of key records: how one is read, passed over, and held against what is asked.
-ghost use Rattle.std.specs.Prelude.{◌≡◌, ◌≤◌, Bool, ℕ, length, MatchResult};
+ghost use Rattle.std.specs.Prelude.{◌≡◌, ◌≤◌, Bool, ℕ, length, IfSome};
 ghost use Rattle.rules.specs.Tables.{Asked};
 ghost use Rattle.rules.specs.declared.Key.{Key};
-ghost use Rattle.records.specs.Parsed.{got, bad, Reader};
+ghost use Rattle.records.specs.Parsed.{Reader, found_as};
 ghost use Rattle.records.specs.Passing.{Sifts};
 ghost use Rattle.records.proofs.FormatLaws.{Walks};
-ghost use Rattle.keytable.specs.Keeping.{Tells};
 ghost use Rattle.keytable.specs.Matching.{key_request_of};
 
 use records::faults::Fault;
@@ -16,6 +15,9 @@ pub trait KeyRecord: Copy {
     ghost Meaning: { Type 0 };
 
     ghost meaning: { Self → Meaning };
+
+    // The record as code holds it.
+    ghost value: { Meaning → Self };
 
     ghost reader: { Reader Meaning };
 
@@ -29,15 +31,17 @@ pub trait KeyRecord: Copy {
 
     // The record that `rest` begins with, and how many bytes it takes.
     fn read(rest: &[u8]) -> Result<(Self, usize), Fault>
-        ensures { Tells (reader rest.now 0) (λ x next r. (x ≡ meaning r.0) × (r.1 ≡ next)) result };
+        ensures { result ≡ found_as value (reader rest.now 0) };
 
-    // The record at the place `at`, if it can be passed over, and whether it is for what is asked.
-    fn pass(table: &[u8], at: usize, request: KeyRequest) -> usize
-        ensures { Sifts reader (asked (key_request_of request).asked) table.now at result };
+    // The record at the place `at`, if it can be passed over: the place after it, and whether it is for what is asked.
+    fn pass(table: &[u8], at: usize, request: KeyRequest) -> Option<(usize, bool)>
+        ensures { IfSome result (λ passed. Sifts reader (asked (key_request_of request).asked) table.now at passed.0 passed.1) };
 
     // Whether the record is for what is asked.
     fn is_asked(self, request: KeyRequest) -> bool
         ensures { result ≡ asked (key_request_of request).asked (meaning self) };
+
+    ghost held: { (x : Meaning) → meaning (value x) ≡ x };
 
     ghost walks: { Walks reader };
 }

@@ -4,18 +4,19 @@
 ghost use Rattle.std.specs.Prelude.{◌≡◌, ◌≤◌, length};
 ghost use Rattle.rules.specs.Ranges.{most_accesses, most_delegations};
 ghost use Rattle.table.specs.ReadKeyTable.{read_key_table};
-ghost use Rattle.keytable.specs.Loading.{key_sections_of, key_loaded_of};
-ghost use Rattle.keytable.specs.Keeping.{asked_in, Tells, KeysKept};
+ghost use Rattle.table.specs.Kept.{IfGood};
+ghost use Rattle.keytable.specs.Loading.{key_loaded_of};
+ghost use Rattle.keytable.specs.Keeping.{kept_in, KeysKept};
 ghost use Rattle.keytable.specs.Matching.{key_request_of};
 ghost use Rattle.keytable.specs.Deciding.{KeyDecides};
 
 use crate::collecting::KeptTable;
 use crate::deciding::{answer_of, greatest_code};
-use crate::loading::{load_section, told};
+use crate::loading::{KeptSection, load_section};
 use records::faults::{Fault, Kind, fault_at};
 use records::fields::Use;
 use records::keys::{KeyAccess, KeyDelegation};
-use records::requests::{KeyRequest, KeyRequestRead, read_key_request};
+use records::requests::{KeyRequest, read_key_request};
 use rules::{Depth, Key};
 use table::loading::{Section, read_version};
 
@@ -44,13 +45,22 @@ pub enum KeyLoaded {
     Bad(Fault),
 }
 
-// The sections of a key table, and how many places of access records and of delegations are kept.
-#[derive(Clone, Copy)]
+// The sections of a key table, and of each how many records are for what is asked.
+#[derive(Clone, Copy, PartialEq, Eq)]
 pub struct KeyKept {
-    pub sections: KeySections,
-    pub accesses: usize,
-    pub delegations: usize,
+    pub accesses: KeptSection,
+    pub delegations: KeptSection,
 }
+
+// What no record is for, as no key is 0.
+const NOTHING: KeyRequest = KeyRequest {
+    subject: Key(0),
+    owner: Key(0),
+    wanted: Use {
+        object: 0,
+        right: 0,
+    },
+};
 
 // Reads the key table whole, and keeps where those records stand that are for what is asked.
 fn load_asked(
@@ -60,43 +70,23 @@ fn load_asked(
     delegations: &mut [u16],
 ) -> Result<KeyKept, Fault>
     requires { (most_accesses ≤ length accesses.old) × (most_delegations ≤ length delegations.old) }
-    ensures { Tells (read_key_table table.now)
-        (λ l end r. (r.sections ≡ key_sections_of l) × KeysKept table.now (key_request_of request).asked accesses.new r.accesses delegations.new r.delegations l) result }
+    ensures read { result ≡ kept_in (key_request_of request).asked (read_key_table table.now) }
+    ensures kept { IfGood (read_key_table table.now)
+        (λ l. KeysKept table.now (key_request_of request).asked accesses.new delegations.new l) }
 {
     if MOST_KEY_TABLE < table.len() {
         return Err(fault_at(Kind::Long, 0));
     }
-    let (_, begin) = told(read_version(table, 0))?;
-    let first = load_section::<KeyAccess>(table, begin, request, accesses)?;
-    let second = load_section::<KeyDelegation>(table, first.after, request, delegations)?;
-    if second.after != table.len() {
-        return Err(fault_at(Kind::Extra, second.after));
+    let begin = read_version(table, 0)?;
+    let (given, middle) = load_section::<KeyAccess>(table, begin, request, accesses)?;
+    let (handed, end) = load_section::<KeyDelegation>(table, middle, request, delegations)?;
+    if end != table.len() {
+        return Err(fault_at(Kind::Extra, end));
     }
     Ok(KeyKept {
-        sections: KeySections {
-            accesses: first.section,
-            delegations: second.section,
-        },
-        accesses: first.kept,
-        delegations: second.kept,
+        accesses: given,
+        delegations: handed,
     })
-}
-
-// What a key request asks; without one, what no record is for.
-fn asked_in(read: KeyRequestRead) -> KeyRequest
-    ensures { result ≡ asked_in read }
-{
-    match read {
-        KeyRequestRead::KeyRequest(asked) => asked,
-        KeyRequestRead::Not => KeyRequest {
-            subject: Key(0),
-            owner: Key(0),
-            wanted: Use {
-                object: 0,
-                right: 0,
-            },
-        },
-    }
 }
 
 // Reads the key table whole.
@@ -105,9 +95,11 @@ pub fn load_key_table(table: &[u8]) -> KeyLoaded
 {
     let mut accesses = [0; 256];
     let mut delegations = [0; 512];
-    let nothing = asked_in(KeyRequestRead::Not);
-    match load_asked(table, nothing, &mut accesses, &mut delegations) {
-        Ok(found) => KeyLoaded::Good(found.sections),
+    match load_asked(table, NOTHING, &mut accesses, &mut delegations) {
+        Ok(kept) => KeyLoaded::Good(KeySections {
+            accesses: kept.accesses.section,
+            delegations: kept.delegations.section,
+        }),
         Err(fault) => KeyLoaded::Bad(fault),
     }
 }
@@ -128,16 +120,16 @@ pub fn decide_by_keys(table: &[u8], request: &[u8]) -> KeyAnswer
     let mut accesses = [0; 256];
     let mut delegations = [0; 512];
     let read = read_key_request(request);
-    let asked = asked_in(read);
+    let asked = read.unwrap_or(NOTHING);
     match load_asked(table, asked, &mut accesses, &mut delegations) {
         Err(fault) => KeyAnswer::Fault(fault),
-        Ok(found) => match read {
-            KeyRequestRead::Not => KeyAnswer::Request,
-            KeyRequestRead::KeyRequest(_) => answer_of(greatest_code(&KeptTable {
+        Ok(kept) => match read {
+            None => KeyAnswer::Request,
+            Some(request) => answer_of(greatest_code(&KeptTable {
                 table,
-                accesses: &accesses[..found.accesses],
-                delegations: &delegations[..found.delegations],
-                request: asked,
+                accesses: &accesses[..kept.accesses.kept],
+                delegations: &delegations[..kept.delegations.kept],
+                request,
             })),
         },
     }

@@ -1,110 +1,90 @@
 // Sections of key records: a count, and so many records. Where those stand that are for what is asked is kept.
-ghost use Rattle.std.specs.Prelude.{◌≡◌, [], ◌≤◌, length, IfOk, MatchResult};
+ghost use Rattle.std.specs.Prelude.{◌≡◌, [], ◌≤◌, length, IfOk};
+ghost use Rattle.records.specs.Parsed.{found_as};
 ghost use Rattle.records.specs.Many.{many};
-ghost use Rattle.records.specs.declared.fields.Field.TheVariants as as_field;
-ghost use Rattle.table.specs.Sections.{section, section_of};
+ghost use Rattle.table.specs.Sections.{section};
+ghost use Rattle.table.specs.Kept.{IfGood};
 ghost use Rattle.table.specs.ReadKeyTable.{most_key_table};
-ghost use Rattle.keytable.specs.Keeping.{sift, Placed, Tells, Sifted};
+ghost use Rattle.keytable.specs.Keeping.{sift, sifted, Placed, kept_of};
 ghost use Rattle.keytable.specs.Matching.{key_request_of};
 
 use crate::kinds::KeyRecord;
 use records::faults::{Fault, moved};
-use records::fields::{Field, read_field};
+use records::fields::read_field;
 use records::requests::KeyRequest;
 use table::loading::Section;
 
-// The place after records that were read, and how many places are kept.
-#[derive(Clone, Copy)]
-pub struct AfterKept {
-    pub after: usize,
-    pub kept: usize,
-}
-
-// A section, the place after it, and how many places are kept.
-#[derive(Clone, Copy)]
-pub struct SectionKept {
+// A section, and how many of its records are for what is asked.
+#[derive(Clone, Copy, PartialEq, Eq)]
+pub struct KeptSection {
     pub section: Section,
-    pub after: usize,
     pub kept: usize,
 }
 
-// A number that was read with the place after it, or its fault.
-pub fn told(field: Field) -> Result<(u32, usize), Fault>
-    ensures { MatchResult result (λ r. field ≡ as_field.Value r.0 r.1) (λ e. field ≡ as_field.Fault e) }
-{
-    match field {
-        Field::Value(number, at) => Ok((number, at)),
-        Field::Fault(fault) => Err(fault),
-    }
-}
-
-// The place after the record at a place, and one if it is for what is asked, else none.
+// Whether the record at a place is for what is asked, and the place after it.
 fn after_record<R: KeyRecord>(
     table: &[u8],
     at: usize,
     request: KeyRequest,
-) -> Result<AfterKept, Fault>
+) -> Result<(bool, usize), Fault>
     requires { (at ≤ length table.now) × (length table.now ≤ most_key_table) }
-    ensures { Sifted R.reader (R.asked (key_request_of request).asked) table.now at result }
+    ensures { result ≡ found_as (R.asked (key_request_of request).asked) (R.reader table.now at) }
 {
-    let passed = R::pass(table, at, request);
-    if 0 < passed {
-        return Ok(AfterKept {
-            after: passed / 2,
-            kept: passed % 2,
-        });
+    if let Some((next, asked)) = R::pass(table, at, request) {
+        return Ok((asked, next));
     }
     match R::read(&table[at..]) {
-        Ok((record, taken)) => Ok(AfterKept {
-            after: at + taken,
-            kept: usize::from(record.is_asked(request)),
-        }),
+        Ok((record, taken)) => Ok((record.is_asked(request), at + taken)),
         Err(fault) => Err(moved(fault, at)),
     }
 }
 
-// So many records from a place on; where those stand that are for what is asked is kept in `places`.
+// How many of so many records from a place on are for what is asked, with the place after all of them; where those stand is kept in `places`.
 fn read_records<R: KeyRecord>(
     table: &[u8],
     from: usize,
     count: usize,
     request: KeyRequest,
     places: &mut [u16],
-) -> Result<AfterKept, Fault>
+) -> Result<(usize, usize), Fault>
     requires { (count ≤ length places.old) × (from ≤ length table.now) × (length table.now ≤ most_key_table) }
-    ensures read { Tells (many (λ earlier. R.reader) count [] table.now from)
-        (λ l next r. (r.after ≡ next) × Placed R.reader table.now places.new r.kept (sift (R.asked (key_request_of request).asked) l)) result }
-    ensures within { IfOk result (λ r. r.after ≤ length table.now) }
+    ensures read { result ≡ found_as (sifted (R.asked (key_request_of request).asked)) (many (λ earlier. R.reader) count [] table.now from) }
+    ensures kept { IfGood (many (λ earlier. R.reader) count [] table.now from)
+        (λ l. Placed R.reader table.now places.new (sifted (R.asked (key_request_of request).asked) l) (sift (R.asked (key_request_of request).asked) l)) }
+    ensures within { IfOk result (λ r. r.1 ≤ length table.now) }
 {
     let mut at = from;
     let mut n = 0;
     for _ in 0..count {
-        let found = after_record::<R>(table, at, request)?;
+        let (asked, next) = after_record::<R>(table, at, request)?;
         places[n] = at as u16;
-        n += found.kept;
-        at = found.after;
+        n += usize::from(asked);
+        at = next;
     }
-    Ok(AfterKept { after: at, kept: n })
+    Ok((n, at))
 }
 
-// The section of the records; where those stand that are for what is asked is kept in `places`.
+// The section of the records, with the place after it; where those stand that are for what is asked is kept in `places`.
 pub fn load_section<R: KeyRecord>(
     table: &[u8],
     from: usize,
     request: KeyRequest,
     places: &mut [u16],
-) -> Result<SectionKept, Fault>
+) -> Result<(KeptSection, usize), Fault>
     requires { (R.MOST ≤ length places.old) × (from ≤ length table.now) × (length table.now ≤ most_key_table) }
-    ensures read { Tells (section R.MOST (λ earlier. R.reader) table.now from)
-        (λ p next r. (r.section ≡ section_of p) × (r.after ≡ next) × Placed R.reader table.now places.new r.kept (sift (R.asked (key_request_of request).asked) p.records)) result }
-    ensures within { IfOk result (λ r. r.after ≤ length table.now) }
+    ensures read { result ≡ found_as (kept_of (R.asked (key_request_of request).asked)) (section R.MOST (λ earlier. R.reader) table.now from) }
+    ensures kept { IfGood (section R.MOST (λ earlier. R.reader) table.now from)
+        (λ p. Placed R.reader table.now places.new (sifted (R.asked (key_request_of request).asked) p.records) (sift (R.asked (key_request_of request).asked) p.records)) }
+    ensures within { IfOk result (λ r. r.1 ≤ length table.now) }
 {
-    let (number, first) = told(read_field(table, from, 0, R::MOST))?;
+    let (number, first) = read_field(table, from, 0, R::MOST)?;
     let count = number as usize;
-    let found = read_records::<R>(table, first, count, request, places)?;
-    Ok(SectionKept {
-        section: Section { count, first },
-        after: found.after,
-        kept: found.kept,
-    })
+    let (kept, end) = read_records::<R>(table, first, count, request, places)?;
+    Ok((
+        KeptSection {
+            section: Section { count, first },
+            kept,
+        },
+        end,
+    ))
 }

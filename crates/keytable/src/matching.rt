@@ -17,18 +17,7 @@ use rules::Key;
 pub fn is_asked(request: KeyRequest, owner: Key, wanted: Use) -> bool
     ensures { result ≡ is_asked (key_request_of request).asked owner wanted.object wanted.right }
 {
-    let asked = request.owner;
-    let usage = request.wanted;
-    if owner.0 != asked.0 {
-        return false;
-    }
-    if wanted.object != usage.object {
-        return false;
-    }
-    if wanted.right != usage.right {
-        return false;
-    }
-    true
+    owner == request.owner && wanted == request.wanted
 }
 
 // Makes a node for the writer of a delegation that matches.
