@@ -13,7 +13,7 @@ use Rattle.records.proofs.RequestsForm.{whole_form}
 use Rattle.checker.specs.Promise as checks
 use Rattle.checker.specs.declared.Checked.{Checked}
 use Rattle.decision.specs.Promise as decides
-use Rattle.decision.specs.declared.Decided.{Decided}
+use Rattle.decision.specs.Promise.{Decided}
 use Rattle.keytable.specs.Deciding as by_keys
 use Rattle.keytable.specs.declared.KeyAnswer.{KeyAnswer}
 use Rattle.translation.specs.Promise as translates

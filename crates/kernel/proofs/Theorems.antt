@@ -10,9 +10,9 @@ use Rattle.records.specs.declared.faults.Kind.TheVariants as kind
 use Rattle.checker.specs.declared.Checked.{Checked}
 use Rattle.checker.specs.declared.Checked.TheVariants as checked
 use Rattle.checker.proofs.Theorems.{checks_one}
-use Rattle.decision.specs.Promise.{Alike}
-use Rattle.decision.specs.declared.Decided.{Decided}
-use Rattle.decision.specs.declared.Decided.TheVariants as decided
+use Rattle.std.specs.Prelude.{Ok, Err}
+use Rattle.decision.specs.Promise.{Decided, Alike}
+use Rattle.decision.specs.declared.Refusal.TheVariants as undecided
 use Rattle.decision.proofs.Theorems.{decision_one}
 use Rattle.keytable.specs.declared.KeyAnswer.{KeyAnswer}
 use Rattle.keytable.specs.declared.KeyAnswer.TheVariants as by_keys
@@ -50,14 +50,14 @@ fault_is_not_zero kind.Twice e = absurd (omega (arith, e))
 fault_is_not_zero kind.Extra e = absurd (omega (arith, e))
 fault_is_not_zero kind.Version e = absurd (omega (arith, e))
 
-pub zero_is_granted : (a : Decided) → (of_decided a).number ≡ 0 → (d : Depth) × (n : ℕ) × (a ≡ decided.Granted d n)
-zero_is_granted (decided.Granted d n) e = (d, n, refl)
-zero_is_granted (decided.BadTable f) e = absurd (fault_is_not_zero f.kind e)
-zero_is_granted decided.BadRequest e = absurd (omega (arith, e))
-zero_is_granted decided.Room e = absurd (omega (arith, e))
-zero_is_granted decided.Unnamed e = absurd (omega (arith, e))
-zero_is_granted decided.Denied e = absurd (omega (arith, e))
-zero_is_granted decided.Overrun e = absurd (omega (arith, e))
+pub zero_is_granted : (a : Decided) → (of_decided a).number ≡ 0 → (d : Depth) × (n : ℕ) × (a ≡ Ok (record { depth = d; length = n }))
+zero_is_granted (Ok g) e = (g.depth, g.length, refl)
+zero_is_granted (Err (undecided.Table f)) e = absurd (fault_is_not_zero f.kind e)
+zero_is_granted (Err undecided.Request) e = absurd (omega (arith, e))
+zero_is_granted (Err undecided.Room) e = absurd (omega (arith, e))
+zero_is_granted (Err undecided.Unnamed) e = absurd (omega (arith, e))
+zero_is_granted (Err undecided.Denied) e = absurd (omega (arith, e))
+zero_is_granted (Err undecided.Overrun) e = absurd (omega (arith, e))
 
 pub zero_is_accepted : (a : Checked) → (of_checked a).number ≡ 0 → (d : Depth) × (a ≡ checked.Accepted d)
 zero_is_accepted (checked.Accepted d) e = (d, refl)

@@ -7,7 +7,7 @@ use lib.ListN.{length}
 use Rattle.rules.specs.Tables.{Table}
 use Rattle.wire.specs.Number.{Bytes}
 use Rattle.decision.specs.Promise as decides
-use Rattle.decision.specs.declared.Decided.{Decided}
+use Rattle.decision.specs.Promise.{Decided}
 use Rattle.translation.specs.Promise as translates
 use Rattle.translation.specs.declared.Translated.{Translated}
 use Rattle.translation.proofs.Theorems.{translation_loads}

@@ -1,12 +1,12 @@
 -- THE REVIEWER'S LIST OF ANSWERS: the number and the values of each. A number that an answer does not carry is 0.
-use Rattle.std.specs.Prelude.{ℕ, ◌<◌, ◌^◌}
+use Rattle.std.specs.Prelude.{ℕ, ◌<◌, ◌^◌, Ok, Err}
 use Rattle.records.specs.declared.faults.Kind.{Kind}
 use Rattle.records.specs.declared.faults.Kind.TheVariants as kind
 use Rattle.records.specs.declared.faults.Fault.{Fault}
 use Rattle.checker.specs.declared.Checked.{Checked}
 use Rattle.checker.specs.declared.Checked.TheVariants as checked
-use Rattle.decision.specs.declared.Decided.{Decided}
-use Rattle.decision.specs.declared.Decided.TheVariants as decided
+use Rattle.decision.specs.Promise.{Decided}
+use Rattle.decision.specs.declared.Refusal.TheVariants as undecided
 use Rattle.keytable.specs.declared.KeyAnswer.{KeyAnswer}
 use Rattle.keytable.specs.declared.KeyAnswer.TheVariants as by_keys
 use Rattle.translation.specs.declared.Translated.{Translated}
@@ -67,13 +67,13 @@ of_fault e = record { number = fault_number e.kind; offset = e.place.offset; dep
 
 -- The decision: a grant carries its depth and the derivation's length.
 abbrev pub of_decided : Decided → Answer
-of_decided (decided.Granted d n) = succeeded d.0 n
-of_decided (decided.BadTable e) = of_fault e
-of_decided decided.BadRequest = bare wrong_request
-of_decided decided.Room = bare room
-of_decided decided.Unnamed = bare unnamed
-of_decided decided.Denied = bare denied
-of_decided decided.Overrun = bare overrun
+of_decided (Ok g) = succeeded g.depth.0 g.length
+of_decided (Err (undecided.Table e)) = of_fault e
+of_decided (Err undecided.Request) = bare wrong_request
+of_decided (Err undecided.Room) = bare room
+of_decided (Err undecided.Unnamed) = bare unnamed
+of_decided (Err undecided.Denied) = bare denied
+of_decided (Err undecided.Overrun) = bare overrun
 
 -- The checker: an acceptance carries its depth.
 abbrev pub of_checked : Checked → Answer

@@ -3,8 +3,7 @@
 use Rattle.std.specs.Prelude.{◌≡◌, List, ℕ}
 use Rattle.checker.specs.Promise.{Checks}
 use Rattle.checker.specs.declared.Checked.{Checked}
-use Rattle.decision.specs.Promise.{Decides}
-use Rattle.decision.specs.declared.Decided.{Decided}
+use Rattle.decision.specs.Promise.{Decided, Decides}
 use Rattle.keytable.specs.Deciding.{KeyDecides}
 use Rattle.keytable.specs.declared.KeyAnswer.{KeyAnswer}
 use Rattle.translation.specs.Promise.{Answers}

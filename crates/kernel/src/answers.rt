@@ -3,7 +3,7 @@ ghost use Rattle.std.specs.Prelude.{◌≡◌};
 ghost use Rattle.kernel.specs.Answers.{fault_number, succeeded, bare, of_fault, of_decided, of_checked, of_translated, of_key_answer, Fits};
 
 use checker::Checked;
-use decision::Decided;
+use decision::Grant;
 use keytable::KeyAnswer;
 use records::faults::{Fault, Kind};
 use translation::Translated;
@@ -88,18 +88,18 @@ pub fn of_fault(fault: Fault) -> Answer
 }
 
 // The decision's answer.
-pub fn of_decided(answer: Decided) -> Answer
+pub fn of_decided(answer: Result<Grant, decision::Refusal>) -> Answer
     requires { Fits (of_decided answer) }
     ensures { result ≡ of_decided answer }
 {
     match answer {
-        Decided::Granted(depth, length) => success(depth.number(), length),
-        Decided::BadTable(fault) => of_fault(fault),
-        Decided::BadRequest => refusal(WRONG_REQUEST),
-        Decided::Room => refusal(ROOM),
-        Decided::Unnamed => refusal(UNNAMED),
-        Decided::Denied => refusal(DENIED),
-        Decided::Overrun => refusal(OVERRUN),
+        Ok(grant) => success(grant.depth.number(), grant.length),
+        Err(decision::Refusal::Table(fault)) => of_fault(fault),
+        Err(decision::Refusal::Request) => refusal(WRONG_REQUEST),
+        Err(decision::Refusal::Room) => refusal(ROOM),
+        Err(decision::Refusal::Unnamed) => refusal(UNNAMED),
+        Err(decision::Refusal::Denied) => refusal(DENIED),
+        Err(decision::Refusal::Overrun) => refusal(OVERRUN),
     }
 }
 
