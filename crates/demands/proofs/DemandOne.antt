@@ -10,8 +10,9 @@ use Rattle.checker.specs.declared.Checked.{Checked}
 use Rattle.checker.specs.declared.Checked.TheVariants as checked
 use Rattle.checker.proofs.Theorems.{checks_one}
 use Rattle.decision.specs.Promise.{DecidesGood, bad_request, room, unnamed, denied, granted, overrun, Decides, bad_table, good_table}
-use Rattle.decision.specs.declared.Decided.{Decided}
-use Rattle.decision.specs.declared.Decided.TheVariants as decided
+use Rattle.decision.specs.Promise.{Decided}
+use Rattle.decision.specs.declared.Refusal.TheVariants as undecided
+use Rattle.std.specs.Prelude.{Ok, Err}
 use Rattle.decision.proofs.Theorems.{decision_one}
 use Rattle.keytable.specs.declared.KeyAnswer.{KeyAnswer}
 use Rattle.keytable.specs.declared.KeyAnswer.TheVariants as key_answer
@@ -36,13 +37,13 @@ fault_listed kind.Extra = omega arith
 fault_listed kind.Version = omega arith
 
 decided_listed : (a : Decided) → (of_decided a).number ≤ 13
-decided_listed (decided.Granted d n) = omega arith
-decided_listed (decided.BadTable e) = omega (arith, fault_listed e.kind)
-decided_listed decided.BadRequest = omega arith
-decided_listed decided.Room = omega arith
-decided_listed decided.Unnamed = omega arith
-decided_listed decided.Denied = omega arith
-decided_listed decided.Overrun = omega arith
+decided_listed (Ok g) = omega arith
+decided_listed (Err (undecided.Table e)) = omega (arith, fault_listed e.kind)
+decided_listed (Err undecided.Request) = omega arith
+decided_listed (Err undecided.Room) = omega arith
+decided_listed (Err undecided.Unnamed) = omega arith
+decided_listed (Err undecided.Denied) = omega arith
+decided_listed (Err undecided.Overrun) = omega arith
 
 checked_listed : (a : Checked) → (of_checked a).number ≤ 12
 checked_listed (checked.Accepted d) = omega arith

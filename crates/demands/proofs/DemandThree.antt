@@ -29,8 +29,7 @@ use Rattle.table.specs.ReadTable.{Laid as LaidTable, table_of, read_table}
 use Rattle.table.specs.ReadKeyTable.{KeyLaid, key_table_of, read_key_table, most_key_table}
 use Rattle.table.proofs.Theorems.{table_form}
 use Rattle.table.proofs.FindingLaws.{at_below}
-use Rattle.decision.specs.declared.Decided.{Decided}
-use Rattle.decision.specs.declared.Decided.TheVariants as decided
+use Rattle.decision.specs.Promise.{Decided}
 use Rattle.keytable.specs.Deciding.{KeyDecides, fault, request, denied, granted}
 use Rattle.keytable.specs.declared.KeyAnswer.{KeyAnswer}
 use Rattle.keytable.specs.declared.KeyAnswer.TheVariants as by_keys
@@ -40,7 +39,7 @@ use Rattle.translation.proofs.GoodLaws.{means_good}
 use Rattle.translation.proofs.Theorems.{Loads, translation_loads}
 use Rattle.demands.specs.DemandTwo.{Accepted}
 use Rattle.demands.specs.DemandThree.{Succeeds, AsksTheSame, SameAnswer, TakenOut, SameDecision, DemandThree}
-use Rattle.demands.proofs.OutcomeLaws.{Outcome, yes, no, outcome, unnamed_here}
+use Rattle.demands.proofs.OutcomeLaws.{Outcome, yes, no, outcome, unnamed_here, granted_at, same_depth}
 
 -- ---- what a key has is one, however it is derived
 has_alike : (Y Z : Setting) (k : Key) → ((d : ℕ) → Granted Y k d ↔ Granted Z k d) → {v : Verdict} → Has Y k v → Has Z k v
@@ -74,58 +73,34 @@ module _ (Y Z : Setting) (k : Key) (same : (d : ℕ) → Granted Y k d ↔ Grant
   one h g = has_one Z k (has_alike Y Z k same h) g
 
   same_answer : (a : Decided) (b : KeyAnswer) → Outcome Y k a → KeyOutcome Z k b → SameAnswer a b
-  same_answer (decided.Granted d n) (by_keys.Granted c) (yes h) (yes' g) =
+  same_answer a b (yes {d = d} {n = n} h) (yes' {d = c} g) =
       let e : d.0 ≡ c.0 = cc (one h g) in
       let f : d ≡ c = λ i. record { 0 = e i } in
       record {
-        granted = λ x. (λ w. let p : d ≡ x = cc w.1 in ap by_keys.Granted (sym f ∙ p), λ w. (n, let p : c ≡ x = cc w in ap (λ (z : Depth). decided.Granted z n) (f ∙ p)));
+        granted = λ x. (λ w. let p : d ≡ x = same_depth w.1 in ap by_keys.Granted (sym f ∙ p), λ w. (n, let p : c ≡ x = cc w in ap (λ (z : Depth). granted_at z n) (f ∙ p)));
         denied = (λ w. let z : ◌≡◌ {A = ℕ} 0 1 = cc w in absurd (omega arith), λ w. let z : ◌≡◌ {A = ℕ} 0 1 = cc w in absurd (omega arith));
       }
-  same_answer (decided.Granted d n) by_keys.Denied (yes h) (no' g) = absurd (apart (one h g))
-  same_answer decided.Denied (by_keys.Granted c) (no h) (yes' g) = absurd (apart (sym (one h g)))
-  same_answer decided.Denied by_keys.Denied (no h) (no' g) = record {
+  same_answer a b (yes h) (no' g) = absurd (apart (one h g))
+  same_answer a b (no h) (yes' g) = absurd (apart (sym (one h g)))
+  same_answer a b (no h) (no' g) = record {
     granted = λ x. (λ w. let z : ◌≡◌ {A = ℕ} 0 1 = cc w.1 in absurd (omega arith), λ w. let z : ◌≡◌ {A = ℕ} 0 1 = cc w in absurd (omega arith));
     denied = (λ w. refl, λ w. refl);
   }
-  same_answer (decided.Granted d n) (by_keys.Fault _) _ h = elim h [ ]
-  same_answer (decided.Granted d n) by_keys.Request _ h = elim h [ ]
-  same_answer (decided.BadTable _) b h _ = elim h [ ]
-  same_answer decided.BadRequest b h _ = elim h [ ]
-  same_answer decided.Room b h _ = elim h [ ]
-  same_answer decided.Unnamed b h _ = elim h [ ]
-  same_answer decided.Denied (by_keys.Fault _) _ h = elim h [ ]
-  same_answer decided.Denied by_keys.Request _ h = elim h [ ]
-  same_answer decided.Overrun b h _ = elim h [ ]
 
   same_decision : (a b : Decided) → Outcome Y k a → Outcome Z k b → SameDecision a b
-  same_decision (decided.Granted d n) (decided.Granted c m) (yes h) (yes g) =
+  same_decision a b (yes {d = d} {n = n} h) (yes {d = c} {n = m} g) =
       let e : d.0 ≡ c.0 = cc (one h g) in
       let f : d ≡ c = λ i. record { 0 = e i } in
       record {
-        granted = λ x. (λ w. (m, let p : d ≡ x = cc w.1 in ap (λ (z : Depth). decided.Granted z m) (sym f ∙ p)), λ w. (n, let p : c ≡ x = cc w.1 in ap (λ (z : Depth). decided.Granted z n) (f ∙ p)));
+        granted = λ x. (λ w. (m, let p : d ≡ x = same_depth w.1 in ap (λ (z : Depth). granted_at z m) (sym f ∙ p)), λ w. (n, let p : c ≡ x = same_depth w.1 in ap (λ (z : Depth). granted_at z n) (f ∙ p)));
         denied = (λ w. let z : ◌≡◌ {A = ℕ} 0 1 = cc w in absurd (omega arith), λ w. let z : ◌≡◌ {A = ℕ} 0 1 = cc w in absurd (omega arith));
       }
-  same_decision (decided.Granted d n) decided.Denied (yes h) (no g) = absurd (apart (one h g))
-  same_decision decided.Denied (decided.Granted c m) (no h) (yes g) = absurd (apart (sym (one h g)))
-  same_decision decided.Denied decided.Denied (no h) (no g) = record {
+  same_decision a b (yes h) (no g) = absurd (apart (one h g))
+  same_decision a b (no h) (yes g) = absurd (apart (sym (one h g)))
+  same_decision a b (no h) (no g) = record {
     granted = λ x. (λ w. let z : ◌≡◌ {A = ℕ} 0 1 = cc w.1 in absurd (omega arith), λ w. let z : ◌≡◌ {A = ℕ} 0 1 = cc w.1 in absurd (omega arith));
     denied = (λ w. refl, λ w. refl);
   }
-  same_decision (decided.Granted d n) (decided.BadTable _) _ h = elim h [ ]
-  same_decision (decided.Granted d n) decided.BadRequest _ h = elim h [ ]
-  same_decision (decided.Granted d n) decided.Room _ h = elim h [ ]
-  same_decision (decided.Granted d n) decided.Unnamed _ h = elim h [ ]
-  same_decision (decided.Granted d n) decided.Overrun _ h = elim h [ ]
-  same_decision (decided.BadTable _) b h _ = elim h [ ]
-  same_decision decided.BadRequest b h _ = elim h [ ]
-  same_decision decided.Room b h _ = elim h [ ]
-  same_decision decided.Unnamed b h _ = elim h [ ]
-  same_decision decided.Denied (decided.BadTable _) _ h = elim h [ ]
-  same_decision decided.Denied decided.BadRequest _ h = elim h [ ]
-  same_decision decided.Denied decided.Room _ h = elim h [ ]
-  same_decision decided.Denied decided.Unnamed _ h = elim h [ ]
-  same_decision decided.Denied decided.Overrun _ h = elim h [ ]
-  same_decision decided.Overrun b h _ = elim h [ ]
 
 -- ---- over the bytes
 module _ (table asked key_request : List ℕ) (b : Bytes table) (x : Accepted table asked) (q : AsksTheSame table asked key_request x) (n : ℕ) (after : List ℕ) (w : Loads table after n) where

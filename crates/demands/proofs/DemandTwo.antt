@@ -29,23 +29,23 @@ use Rattle.checker.specs.declared.Checked.{Checked}
 use Rattle.checker.specs.declared.Checked.TheVariants as checked
 use Rattle.decision.specs.Promise.{DecidesGood, Decides}
 use Rattle.decision.specs.Promise as promise
-use Rattle.decision.specs.declared.Decided.{Decided}
-use Rattle.decision.specs.declared.Decided.TheVariants as decided
+use Rattle.decision.specs.Promise.{Decided}
+use Rattle.std.specs.Prelude.{Ok}
 use Rattle.demands.specs.DemandTwo.{Accepted, GrantedExactly, HoldsHere, DemandTwo}
-use Rattle.demands.proofs.OutcomeLaws.{Outcome, yes, no, outcome}
+use Rattle.demands.proofs.OutcomeLaws.{Outcome, yes, no, outcome, same_depth, same_length}
 
 -- ---- granted exactly
 pub key_granted : (t : Table) → Good t → (r : Request) (k : Key) → TargetMeans t.names r.subject k → (e : ℕ) → Grants t r e → Granted (setting t r.asked) k e
 key_granted t good r k named e g = subst (λ (z : Key). Granted (setting t r.asked) z e) (target_one t.names good.names r.subject g.key k g.subject named) g.granted
 
 exactly : (table request : List ℕ) → Bytes table → (x : Accepted table request) (a : Decided) → Outcome (setting (table_of x.laid) x.asked.asked) x.key a → GrantedExactly table request x a
-exactly table request b x (decided.Granted d n) (yes (greatest g most)) = record {
-  derived = λ e m h. record { key = x.key; subject = x.named; granted = subst (λ (z : Depth). Granted (setting (table_of x.laid) x.asked.asked) x.key z.0) (cc h) g };
-  greatest = λ c m h e f. subst (λ (z : Depth). e ≤ z.0) (cc h) (most e (key_granted (table_of x.laid) (table_form table x.laid x.end b x.table').1 x.asked x.key x.named e f));
+exactly table request b x a (yes {d = d} {n = n} (greatest g most)) = record {
+  derived = λ e m h. record { key = x.key; subject = x.named; granted = subst (λ (z : Depth). Granted (setting (table_of x.laid) x.asked.asked) x.key z.0) (same_depth h) g };
+  greatest = λ c m h e f. subst (λ (z : Depth). e ≤ z.0) (same_depth h) (most e (key_granted (table_of x.laid) (table_form table x.laid x.end b x.table').1 x.asked x.key x.named e f));
   granted = λ e f. (d, n, refl);
   denied = (λ h. let z : ◌≡◌ {A = ℕ} 0 1 = cc h in absurd (omega arith), λ f. absurd (f d.0 (record { key = x.key; subject = x.named; granted = g })));
 }
-exactly table request b x decided.Denied (no (nothing f)) =
+exactly table request b x a (no (nothing f)) =
     let none : (e : ℕ) → Grants (table_of x.laid) x.asked e → ⊥ = λ e g. f e (key_granted (table_of x.laid) (table_form table x.laid x.end b x.table').1 x.asked x.key x.named e g) in
     record {
       derived = λ d n h. let z : ◌≡◌ {A = ℕ} 0 1 = cc h in absurd (omega arith);
@@ -53,11 +53,6 @@ exactly table request b x decided.Denied (no (nothing f)) =
       granted = λ e g. absurd (none e g);
       denied = (λ h. none, λ g. refl);
     }
-exactly table request b x (decided.BadTable _) h = elim h [ ]
-exactly table request b x decided.BadRequest h = elim h [ ]
-exactly table request b x decided.Room h = elim h [ ]
-exactly table request b x decided.Unnamed h = elim h [ ]
-exactly table request b x decided.Overrun h = elim h [ ]
 
 -- ---- what was written is accepted
 derivation_short : (s : List ℕ) (l : Laid) → read_derivation s ≡ some l → length s ≤ most_derivation
@@ -67,7 +62,7 @@ derivation_short s l e = (whole_form most_derivation derivation_fields s l e).0
 front : (before bytes : List ℕ) → length bytes ≤ length before → take (length bytes) (placed before 0 bytes) ≡ bytes
 front before bytes h = rw zero-add at (placed_take before bytes 0 (omega (arith, h)))
 
-good_written : {t : Table} {request sheet₀ derivation₀ x v : List ℕ} {a : Decided} → DecidesGood t request sheet₀ derivation₀ a x v → (d : Depth) (n : ℕ) → a ≡ decided.Granted d n
+good_written : {t : Table} {request sheet₀ derivation₀ x v : List ℕ} {a : Decided} → DecidesGood t request sheet₀ derivation₀ a x v → (d : Depth) (n : ℕ) → a ≡ Ok (record { depth = d; length = n })
     → ChecksGood t request (take n v) (checked.Accepted d)
 good_written (promise.bad_request e) d n h = let z : ◌≡◌ {A = ℕ} 0 1 = cc h in absurd (omega arith)
 good_written (promise.room e f) d n h = let z : ◌≡◌ {A = ℕ} 0 1 = cc h in absurd (omega arith)
@@ -78,12 +73,12 @@ good_written {t = t} {request = request} {derivation₀ = derivation₀} (promis
     let w : read_derivation (take (length bytes) (placed derivation₀ 0 bytes)) ≡ some x.laid = ap read_derivation (front derivation₀ bytes (omega (arith, derivation_short bytes x.laid x.read, p.room_for_derivation))) ∙ x.read in
     let y : ChecksGood t request (take (length bytes) (placed derivation₀ 0 bytes)) (checked.Accepted c)
     = accepted p.accepted w (subst (λ (v : Derivation). Holds t r v c.0) (sym x.same) x.shown.holds) in
-    let e : c ≡ d = cc h in
-    let g : length bytes ≡ n = cc h in
+    let e : c ≡ d = same_depth h in
+    let g : length bytes ≡ n = same_length h in
     subst (λ (z : Depth). ChecksGood t request (take n (placed derivation₀ 0 bytes)) (checked.Accepted z)) e
     (subst (λ (z : ℕ). ChecksGood t request (take z (placed derivation₀ 0 bytes)) (checked.Accepted c)) g y)
 
-written : {table request sheet₀ derivation₀ x v : List ℕ} {a : Decided} → Decides table request sheet₀ derivation₀ a x v → (d : Depth) (n : ℕ) → a ≡ decided.Granted d n
+written : {table request sheet₀ derivation₀ x v : List ℕ} {a : Decided} → Decides table request sheet₀ derivation₀ a x v → (d : Depth) (n : ℕ) → a ≡ Ok (record { depth = d; length = n })
     → Checks table request (take n v) (checked.Accepted d)
 written (promise.bad_table e) d n h = let z : ◌≡◌ {A = ℕ} 0 1 = cc h in absurd (omega arith)
 written (promise.good_table e w) d n h = good_table e (good_written w d n h)

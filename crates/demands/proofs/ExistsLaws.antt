@@ -43,8 +43,9 @@ use Rattle.checker.specs.declared.Checked.{Checked}
 use Rattle.checker.specs.declared.Checked.TheVariants as checked
 use Rattle.decision.specs.Promise.{sheet_size, Ready, DecidesGood, Decides}
 use Rattle.decision.specs.Promise as decides
-use Rattle.decision.specs.declared.Decided.{Decided}
-use Rattle.decision.specs.declared.Decided.TheVariants as decided
+use Rattle.decision.specs.Promise.{Decided}
+use Rattle.decision.specs.declared.Refusal.TheVariants as undecided
+use Rattle.std.specs.Prelude.{Ok, Err}
 use Rattle.decision.proofs.ListedLaws.{all_below, ordered_below, chain_listed, chain_written}
 use Rattle.keytable.specs.Deciding.{KeyDecides}
 use Rattle.keytable.specs.Deciding as by_keys
@@ -136,8 +137,8 @@ module _ (t : Table) (good : Good t) (request sheet₀ derivation₀ : List ℕ)
     }
 
     settle : {v : Verdict} → rule.Decides t r v → Some
-    settle (rule.means_nothing f) = (decided.Unnamed, filled, derivation₀, decides.unnamed ready f)
-    settle (rule.named m (nothing f)) = (decided.Denied, filled, derivation₀, decides.denied ready m (nothing f))
+    settle (rule.means_nothing f) = (Err undecided.Unnamed, filled, derivation₀, decides.unnamed ready f)
+    settle (rule.named m (nothing f)) = (Err undecided.Denied, filled, derivation₀, decides.denied ready m (nothing f))
     settle (rule.named m (greatest {d = d} g most)) = write (what_is_granted_is_shown t good r d (rule.named m (greatest g most))) m (greatest g most)
       where
         write : (x : Shown t r d) {k : Key} → TargetMeans t.names r.subject k → Has (setting t r.asked) k (rule.granted d) → Some
@@ -146,26 +147,26 @@ module _ (t : Table) (good : Good t) (request sheet₀ derivation₀ : List ℕ)
             go : (length (derivation_bytes x.derivation) ≤ most_derivation) ⊎ (most_derivation < length (derivation_bytes x.derivation)) → Some
             go (inl fits) =
                 let l = derivation_reads x.derivation (shown_good t good r d x) fits in
-                (decided.Granted (record { 0 = d }) (length (derivation_bytes x.derivation)), filled, placed derivation₀ 0 (derivation_bytes x.derivation), decides.granted ready m h (record { shown = x; laid = l.0; read = l.1; same = l.2 }))
-            go (inr long) = (decided.Overrun, filled, derivation₀, decides.overrun ready m h x long)
+                (Ok (record { depth = record { 0 = d }; length = length (derivation_bytes x.derivation) }), filled, placed derivation₀ 0 (derivation_bytes x.derivation), decides.granted ready m h (record { shown = x; laid = l.0; read = l.1; same = l.2 }))
+            go (inr long) = (Err undecided.Overrun, filled, derivation₀, decides.overrun ready m h x long)
 
   good_decides : Some
   good_decides = asked (read_request (length t.names.spaces) request) refl
     where
       asked : (o : Option Request) → read_request (length t.names.spaces) request ≡ o → Some
-      asked none e = (decided.BadRequest, sheet₀, derivation₀, decides.bad_request e)
+      asked none e = (Err undecided.Request, sheet₀, derivation₀, decides.bad_request e)
       asked (some r) e = sheet (either sheet_size (length sheet₀)) (either most_derivation (length derivation₀))
         where
           sheet : (sheet_size ≤ length sheet₀) ⊎ (length sheet₀ < sheet_size) → (most_derivation ≤ length derivation₀) ⊎ (length derivation₀ < most_derivation) → Some
-          sheet (inr h) d = (decided.Room, sheet₀, derivation₀, decides.room e (inl h))
-          sheet (inl h) (inr d) = (decided.Room, sheet₀, derivation₀, decides.room e (inr d))
+          sheet (inr h) d = (Err undecided.Room, sheet₀, derivation₀, decides.room e (inl h))
+          sheet (inl h) (inr d) = (Err undecided.Room, sheet₀, derivation₀, decides.room e (inr d))
           sheet (inl h) (inl d) = settle r e h d (rounds_find_the_greatest t good r)
 
 pub decides_something : (table request sheet₀ derivation₀ : List ℕ) → Bytes table → (a : Decided) × (x : List ℕ) × (v : List ℕ) × Decides table request sheet₀ derivation₀ a x v
 decides_something table request sheet₀ derivation₀ b = go (read_table table) refl
   where
     go : (p : Parsed LaidTable) → read_table table ≡ p → (a : Decided) × (x : List ℕ) × (v : List ℕ) × Decides table request sheet₀ derivation₀ a x v
-    go (bad f) e = (decided.BadTable f, sheet₀, derivation₀, decides.bad_table e)
+    go (bad f) e = (Err (undecided.Table f), sheet₀, derivation₀, decides.bad_table e)
     go (got l n) e = let w = good_decides (table_of l) (table_form table l n b e).1 request sheet₀ derivation₀ in (w.0, w.1, w.2, decides.good_table e w.3)
 
 -- ---- the checker

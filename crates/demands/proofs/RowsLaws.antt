@@ -38,8 +38,9 @@ use Rattle.checker.specs.declared.Checked.{Checked}
 use Rattle.checker.specs.declared.Checked.TheVariants as checked
 use Rattle.decision.specs.Promise.{sheet_size, SheetFilled, DecidesGood, Decides}
 use Rattle.decision.specs.Promise as promise
-use Rattle.decision.specs.declared.Decided.{Decided}
-use Rattle.decision.specs.declared.Decided.TheVariants as decided
+use Rattle.decision.specs.Promise.{Decided}
+use Rattle.decision.specs.declared.Refusal.TheVariants as undecided
+use Rattle.std.specs.Prelude.{Ok, Err}
 use Rattle.decision.proofs.ListedLaws.{ordered_below}
 use Rattle.decision.proofs.WritingLaws.{many_short, derivation_size}
 use Rattle.table.specs.ReadKeyTable.{most_key_table}
@@ -126,9 +127,9 @@ good_tells : (t : Table) → Good t → length t.names.bindings ≤ 60 → (requ
 good_tells t good few request sheet₀ derivation₀ r e p q v w a (promise.bad_request f) = absurd (some_or_none e f)
 good_tells t good few request sheet₀ derivation₀ r e p q v w a (promise.room f (inl h)) = absurd (omega (arith, h, p))
 good_tells t good few request sheet₀ derivation₀ r e p q v w a (promise.room f (inr h)) = absurd (omega (arith, h, q))
-good_tells t good few request sheet₀ derivation₀ r e p q v w a (promise.unnamed z f) = verdicts t good r _ e z.accepted decided.Unnamed rule.unnamed v (rule.means_nothing f) w (refl, refl)
-good_tells t good few request sheet₀ derivation₀ r e p q v w a (promise.denied z m h) = verdicts t good r _ e z.accepted decided.Denied rule.denied v (rule.named m h) w (refl, refl)
-good_tells t good few request sheet₀ derivation₀ r e p q v w a (promise.granted {d = d} {bytes = bytes} z m h x) = verdicts t good r _ e z.accepted (decided.Granted d (length bytes)) (rule.granted d.0) v (rule.named m h) w (refl, refl)
+good_tells t good few request sheet₀ derivation₀ r e p q v w a (promise.unnamed z f) = verdicts t good r _ e z.accepted (Err undecided.Unnamed) rule.unnamed v (rule.means_nothing f) w (refl, refl)
+good_tells t good few request sheet₀ derivation₀ r e p q v w a (promise.denied z m h) = verdicts t good r _ e z.accepted (Err undecided.Denied) rule.denied v (rule.named m h) w (refl, refl)
+good_tells t good few request sheet₀ derivation₀ r e p q v w a (promise.granted {d = d} {bytes = bytes} z m h x) = verdicts t good r _ e z.accepted (Ok (record { depth = d; length = length bytes })) (rule.granted d.0) v (rule.named m h) w (refl, refl)
 good_tells t good few request sheet₀ derivation₀ r e p q v w a (promise.overrun {r = s} {d = d} z m h x l) = absurd (never_long t few s d x l)
 
 six : length specimen.names.bindings ≤ 60

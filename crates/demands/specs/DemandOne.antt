@@ -5,7 +5,7 @@ use Rattle.wire.specs.Number.{Bytes}
 use Rattle.checker.specs.Promise.{Checks}
 use Rattle.checker.specs.declared.Checked.{Checked}
 use Rattle.decision.specs.Promise.{Decides, Alike}
-use Rattle.decision.specs.declared.Decided.{Decided}
+use Rattle.decision.specs.Promise.{Decided}
 use Rattle.keytable.specs.Deciding.{KeyDecides}
 use Rattle.keytable.specs.declared.KeyAnswer.{KeyAnswer}
 use Rattle.translation.specs.Promise.{Answers}

@@ -13,8 +13,9 @@ use Rattle.records.specs.Requests.{read_request, read_key_request}
 use Rattle.table.specs.ReadTable.{Laid as LaidTable, table_of, read_table}
 use Rattle.table.specs.ReadKeyTable.{KeyLaid, read_key_table, most_key_table}
 use Rattle.decision.specs.Promise.{Decides}
-use Rattle.decision.specs.declared.Decided.{Decided}
-use Rattle.decision.specs.declared.Decided.TheVariants as decided
+use Rattle.decision.specs.Promise.{Decided}
+use Rattle.decision.specs.declared.Refusal.TheVariants as undecided
+use Rattle.std.specs.Prelude.{Ok, Err}
 use Rattle.keytable.specs.Deciding.{KeyDecides}
 use Rattle.keytable.specs.declared.KeyAnswer.{KeyAnswer}
 use Rattle.keytable.specs.declared.KeyAnswer.TheVariants as by_keys
@@ -38,8 +39,8 @@ pub record AsksTheSame (table request key_request : List ℕ) (x : Accepted tabl
 
 -- The same grant at the same depth, or the same denial.
 pub record SameAnswer (a : Decided) (b : KeyAnswer) : Type 0 where
-  pub granted : (d : Depth) → ((n : ℕ) × (a ≡ decided.Granted d n)) ↔ (b ≡ by_keys.Granted d)
-  pub denied : (a ≡ decided.Denied) ↔ (b ≡ by_keys.Denied)
+  pub granted : (d : Depth) → ((n : ℕ) × (a ≡ Ok (record { depth = d; length = n }))) ↔ (b ≡ by_keys.Granted d)
+  pub denied : (a ≡ Err undecided.Denied) ↔ (b ≡ by_keys.Denied)
 
 -- The second table is the first without some of its records that name someone without a meaning.
 pub record TakenOut (l m : LaidTable) : Type 0 where
@@ -49,8 +50,8 @@ pub record TakenOut (l m : LaidTable) : Type 0 where
   pub idle : WithoutIdle (table_of l) (record { names = (table_of l).names; accesses = accesses; delegations = delegations })
 
 pub record SameDecision (a b : Decided) : Type 0 where
-  pub granted : (d : Depth) → ((n : ℕ) × (a ≡ decided.Granted d n)) ↔ ((n : ℕ) × (b ≡ decided.Granted d n))
-  pub denied : (a ≡ decided.Denied) ↔ (b ≡ decided.Denied)
+  pub granted : (d : Depth) → ((n : ℕ) × (a ≡ Ok (record { depth = d; length = n }))) ↔ ((n : ℕ) × (b ≡ Ok (record { depth = d; length = n })))
+  pub denied : (a ≡ Err undecided.Denied) ↔ (b ≡ Err undecided.Denied)
 
 pub record DemandThree : Type 0 where
   pub succeeds : (table before after : List ℕ) (a : Translated) (l : LaidTable) (end : ℕ) → Bytes table → read_table table ≡ got l end → most_key_table ≤ length before
@@ -68,4 +69,4 @@ pub record DemandThree : Type 0 where
   -- Nor to another such name: a subject without a meaning is told that it has none, whatever the records say.
   pub unnamed : (table request sheet₀ derivation₀ sheet derivation : List ℕ) (a : Decided) (l : LaidTable) (end : ℕ) (r : Request) → read_table table ≡ got l end
       → read_request (length (table_of l).names.spaces) request ≡ some r → ((k : Key) → TargetMeans (table_of l).names r.subject k → ⊥) → Room sheet₀ derivation₀ a
-      → Decides table request sheet₀ derivation₀ a sheet derivation → a ≡ decided.Unnamed
+      → Decides table request sheet₀ derivation₀ a sheet derivation → a ≡ Err undecided.Unnamed

@@ -17,8 +17,9 @@ use Rattle.checker.specs.Promise.{Checks}
 use Rattle.checker.specs.declared.Checked.{Checked}
 use Rattle.checker.specs.declared.Checked.TheVariants as checked
 use Rattle.decision.specs.Promise.{sheet_size, Decides}
-use Rattle.decision.specs.declared.Decided.{Decided}
-use Rattle.decision.specs.declared.Decided.TheVariants as decided
+use Rattle.decision.specs.Promise.{Decided}
+use Rattle.decision.specs.declared.Refusal.TheVariants as undecided
+use Rattle.std.specs.Prelude.{Ok, Err}
 
 -- The table and the request are accepted, and the subject has a meaning.
 pub record Accepted (table request : List ℕ) : Type 0 where
@@ -34,14 +35,14 @@ pub record Accepted (table request : List ℕ) : Type 0 where
 pub record Room (sheet derivation : List ℕ) (a : Decided) : Type 0 where
   pub sheet' : sheet_size ≤ length sheet
   pub derivation' : most_derivation ≤ length derivation
-  pub fits : a ≡ decided.Overrun → ⊥
+  pub fits : a ≡ Err undecided.Overrun → ⊥
 
 -- Granted exactly if the rules derive it: a grant's depth is one that they derive, and they derive none greater.
 pub record GrantedExactly (table request : List ℕ) (x : Accepted table request) (a : Decided) : Type 0 where
-  pub derived : (d : Depth) (n : ℕ) → a ≡ decided.Granted d n → Grants (table_of x.laid) x.asked d.0
-  pub greatest : (d : Depth) (n : ℕ) → a ≡ decided.Granted d n → (e : ℕ) → Grants (table_of x.laid) x.asked e → e ≤ d.0
-  pub granted : (e : ℕ) → Grants (table_of x.laid) x.asked e → (d : Depth) × (n : ℕ) × (a ≡ decided.Granted d n)
-  pub denied : (a ≡ decided.Denied) ↔ ((e : ℕ) → Grants (table_of x.laid) x.asked e → ⊥)
+  pub derived : (d : Depth) (n : ℕ) → a ≡ Ok (record { depth = d; length = n }) → Grants (table_of x.laid) x.asked d.0
+  pub greatest : (d : Depth) (n : ℕ) → a ≡ Ok (record { depth = d; length = n }) → (e : ℕ) → Grants (table_of x.laid) x.asked e → e ≤ d.0
+  pub granted : (e : ℕ) → Grants (table_of x.laid) x.asked e → (d : Depth) × (n : ℕ) × (a ≡ Ok (record { depth = d; length = n }))
+  pub denied : (a ≡ Err undecided.Denied) ↔ ((e : ℕ) → Grants (table_of x.laid) x.asked e → ⊥)
 
 -- The derivation holds at the depth, by the tables that are shown.
 pub record HoldsHere (table request derivation : List ℕ) (d : ℕ) : Type 0 where
@@ -58,7 +59,7 @@ pub record DemandTwo : Type 0 where
   pub exactly : (table request sheet₀ derivation₀ sheet derivation : List ℕ) (a : Decided) → Bytes table → (x : Accepted table request) → Decides table request sheet₀ derivation₀ a sheet derivation
       → Room sheet₀ derivation₀ a → GrantedExactly table request x a
   -- What the decision wrote is accepted by the checker at the same depth.
-  pub written : (table request sheet₀ derivation₀ sheet derivation : List ℕ) (d : Depth) (n : ℕ) → Decides table request sheet₀ derivation₀ (decided.Granted d n) sheet derivation
+  pub written : (table request sheet₀ derivation₀ sheet derivation : List ℕ) (d : Depth) (n : ℕ) → Decides table request sheet₀ derivation₀ (Ok (record { depth = d; length = n })) sheet derivation
       → Checks table request (take n derivation) (checked.Accepted d)
   -- Accepted is exactly what holds in the table that is shown, wherever the derivation comes from.
   pub accepted : (table request derivation : List ℕ) (a : Checked) (d : Depth) → Checks table request derivation a → (a ≡ checked.Accepted d) ↔ HoldsHere table request derivation d.0

@@ -6,7 +6,7 @@ use Rattle.table.specs.ReadKeyTable.{most_key_table}
 use Rattle.checker.specs.Promise.{Checks}
 use Rattle.checker.specs.declared.Checked.{Checked}
 use Rattle.decision.specs.Promise.{sheet_size, Decides}
-use Rattle.decision.specs.declared.Decided.{Decided}
+use Rattle.decision.specs.Promise.{Decided}
 use Rattle.translation.specs.Promise.{Answers}
 use Rattle.translation.specs.declared.Translated.{Translated}
 use Rattle.translation.specs.declared.Translated.TheVariants as translated

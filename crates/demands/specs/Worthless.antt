@@ -3,7 +3,7 @@ use Rattle.std.specs.Prelude.{◌≡◌, List, [], ◌∷◌, ℕ, ◌≤◌, le
 use Rattle.records.specs.DerivationBytes.{most_derivation}
 use Rattle.table.specs.ReadKeyTable.{most_key_table}
 use Rattle.decision.specs.Promise.{sheet_size, Decides}
-use Rattle.decision.specs.declared.Decided.{Decided}
+use Rattle.decision.specs.Promise.{Decided}
 use Rattle.translation.specs.Promise.{Answers}
 use Rattle.translation.specs.declared.Translated.{Translated}
 use Rattle.translation.specs.declared.Translated.TheVariants as translated
