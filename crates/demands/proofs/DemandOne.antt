@@ -3,11 +3,12 @@ use mathlib.Core.Path.{◌≡◌, refl}
 use mathlib.Core.List.{List}
 use Prim.Native.Nat.{ℕ, ◌≤◌}
 use native.Mathlib.Omega.{arith}
+use Rattle.std.specs.Prelude.{Ok, Err}
 use Rattle.records.specs.declared.faults.Kind.{Kind}
 use Rattle.records.specs.declared.faults.Kind.TheVariants as kind
 use Rattle.rules.specs.Tables.{Table}
-use Rattle.checker.specs.declared.Checked.{Checked}
-use Rattle.checker.specs.declared.Checked.TheVariants as checked
+use Rattle.checker.specs.Promise.{Checked}
+use Rattle.checker.specs.declared.Refusal.TheVariants as not_checked
 use Rattle.checker.proofs.Theorems.{checks_one}
 use Rattle.decision.specs.Promise.{DecidesGood, bad_request, room, unnamed, denied, granted, overrun, Decides, bad_table, good_table}
 use Rattle.decision.specs.Promise.{Decided}
@@ -17,10 +18,9 @@ use Rattle.decision.proofs.Theorems.{decision_one}
 use Rattle.keytable.specs.declared.KeyAnswer.{KeyAnswer}
 use Rattle.keytable.specs.declared.KeyAnswer.TheVariants as key_answer
 use Rattle.keytable.proofs.Theorems.{key_decision_one}
-use Rattle.translation.specs.Promise.{Answers}
+use Rattle.translation.specs.Promise.{Translated, Answers}
 use Rattle.translation.specs.Promise as answers
-use Rattle.translation.specs.declared.Translated.{Translated}
-use Rattle.translation.specs.declared.Translated.TheVariants as translated
+use Rattle.translation.specs.declared.Refusal.TheVariants as not_translated
 use Rattle.translation.proofs.Theorems.{translation_one}
 use Rattle.kernel.specs.Answers.{fault_number, of_decided, of_checked, of_translated, of_key_answer}
 use Rattle.demands.specs.DemandOne.{DemandOne}
@@ -46,15 +46,15 @@ decided_listed (Err undecided.Denied) = omega arith
 decided_listed (Err undecided.Overrun) = omega arith
 
 checked_listed : (a : Checked) → (of_checked a).number ≤ 12
-checked_listed (checked.Accepted d) = omega arith
-checked_listed (checked.BadTable e) = omega (arith, fault_listed e.kind)
-checked_listed checked.BadRequest = omega arith
-checked_listed checked.NotDerivation = omega arith
+checked_listed (Ok d) = omega arith
+checked_listed (Err (not_checked.Table e)) = omega (arith, fault_listed e.kind)
+checked_listed (Err not_checked.Request) = omega arith
+checked_listed (Err not_checked.Derivation) = omega arith
 
 translated_listed : (a : Translated) → (of_translated a).number ≤ 9
-translated_listed (translated.Done n) = omega arith
-translated_listed (translated.BadTable e) = omega (arith, fault_listed e.kind)
-translated_listed translated.Room = omega arith
+translated_listed (Ok n) = omega arith
+translated_listed (Err (not_translated.Table e)) = omega (arith, fault_listed e.kind)
+translated_listed (Err not_translated.Room) = omega arith
 
 key_listed : (a : KeyAnswer) → (of_key_answer a).number ≤ 11
 key_listed (key_answer.Granted d) = omega arith

@@ -33,8 +33,7 @@ use Rattle.decision.specs.Promise.{Decided}
 use Rattle.keytable.specs.Deciding.{KeyDecides, fault, request, denied, granted}
 use Rattle.keytable.specs.declared.KeyAnswer.{KeyAnswer}
 use Rattle.keytable.specs.declared.KeyAnswer.TheVariants as by_keys
-use Rattle.translation.specs.Promise.{Answers, bad_table, room, done}
-use Rattle.translation.specs.declared.Translated.{Translated}
+use Rattle.translation.specs.Promise.{Translated, Answers, bad_table, room, done}
 use Rattle.translation.proofs.GoodLaws.{means_good}
 use Rattle.translation.proofs.Theorems.{Loads, translation_loads}
 use Rattle.demands.specs.DemandTwo.{Accepted}

@@ -9,6 +9,7 @@ use native.Mathlib.Omega.{arith}
 use lib.Dec.{T, leb, leb→le, nleb→lt}
 use lib.ListN.{length, drop, length-append, length-drop, get_or-append}
 use lib.Seq.{drop-append_seam}
+use Rattle.std.specs.Prelude.{Ok, Err}
 use Rattle.rules.specs.Tables.{Request, Table}
 use Rattle.rules.specs.Ranges.{Good, most_bindings, most_delegations}
 use Rattle.rules.specs.Names.{Means, TargetMeans, BindingMeans}
@@ -37,10 +38,9 @@ use Rattle.records.proofs.ParsedLaws.{some_or_none, some_one}
 use Rattle.table.specs.ReadTable.{Laid as LaidTable, table_of, read_table}
 use Rattle.table.specs.ReadKeyTable.{KeyLaid, key_table_of, key_table_bytes, read_key_table, most_key_table}
 use Rattle.table.proofs.Theorems.{table_form, key_table_form}
-use Rattle.checker.specs.Promise.{ChecksGood, Checks}
+use Rattle.checker.specs.Promise.{Checked, ChecksGood, Checks}
 use Rattle.checker.specs.Promise as checks
-use Rattle.checker.specs.declared.Checked.{Checked}
-use Rattle.checker.specs.declared.Checked.TheVariants as checked
+use Rattle.checker.specs.declared.Refusal.TheVariants as not_checked
 use Rattle.decision.specs.Promise.{sheet_size, Ready, DecidesGood, Decides}
 use Rattle.decision.specs.Promise as decides
 use Rattle.decision.specs.Promise.{Decided}
@@ -51,10 +51,9 @@ use Rattle.keytable.specs.Deciding.{KeyDecides}
 use Rattle.keytable.specs.Deciding as by_keys
 use Rattle.keytable.specs.declared.KeyAnswer.{KeyAnswer}
 use Rattle.keytable.specs.declared.KeyAnswer.TheVariants as key_answer
-use Rattle.translation.specs.Promise.{Answers}
+use Rattle.translation.specs.Promise.{Translated, Answers}
 use Rattle.translation.specs.Promise as answers
-use Rattle.translation.specs.declared.Translated.{Translated}
-use Rattle.translation.specs.declared.Translated.TheVariants as translated
+use Rattle.translation.specs.declared.Refusal.TheVariants as not_translated
 use Rattle.demands.proofs.FewLaws.{few_below}
 
 either : (a b : ℕ) → (a ≤ b) ⊎ (b < a)
@@ -174,26 +173,26 @@ checks_good : (t : Table) → Good t → (request derivation : List ℕ) → (a 
 checks_good t good request derivation = asked (read_request (length t.names.spaces) request) refl
   where
     asked : (o : Option Request) → read_request (length t.names.spaces) request ≡ o → (a : Checked) × ChecksGood t request derivation a
-    asked none e = (checked.BadRequest, checks.bad_request e)
+    asked none e = (Err not_checked.Request, checks.bad_request e)
     asked (some r) e = shown (read_derivation derivation) refl
       where
         shown : (o : Option Laid) → read_derivation derivation ≡ o → (a : Checked) × ChecksGood t request derivation a
-        shown none f = (checked.NotDerivation, checks.not_derivation e (λ v d g h. some_or_none g f))
+        shown none f = (Err not_checked.Derivation, checks.not_derivation e (λ v d g h. some_or_none g f))
         shown (some v) f = held (holds_at t r v.derivation) refl
           where
             held : (o : Option ℕ) → holds_at t r v.derivation ≡ o → (a : Checked) × ChecksGood t request derivation a
             held none z = (
-              checked.NotDerivation,
+              Err not_checked.Derivation,
               checks.not_derivation e (λ w d g h.
                   some_or_none ((the_check_is_right t good.names r v.derivation d).1 (subst (λ (y : Laid). Holds t r y.derivation d) (some_one g f) h)) z),
             )
-            held (some d) z = (checked.Accepted (record { 0 = d }), checks.accepted e f ((the_check_is_right t good.names r v.derivation d).0 z))
+            held (some d) z = (Ok (record { 0 = d }), checks.accepted e f ((the_check_is_right t good.names r v.derivation d).0 z))
 
 pub checks_something : (table request derivation : List ℕ) → Bytes table → (a : Checked) × Checks table request derivation a
 checks_something table request derivation b = go (read_table table) refl
   where
     go : (p : Parsed LaidTable) → read_table table ≡ p → (a : Checked) × Checks table request derivation a
-    go (bad f) e = (checked.BadTable f, checks.bad_table e)
+    go (bad f) e = (Err (not_checked.Table f), checks.bad_table e)
     go (got l n) e = let w = checks_good (table_of l) (table_form table l n b e).1 request derivation in (w.0, checks.good_table e w.1)
 
 -- ---- the translation
@@ -201,14 +200,14 @@ pub translates_something : (table before : List ℕ) → Bytes table → (a : Tr
 translates_something table before b = go (read_table table) refl
   where
     go : (p : Parsed LaidTable) → read_table table ≡ p → (a : Translated) × (x : List ℕ) × Answers table before a x
-    go (bad f) e = (translated.BadTable f, before, answers.bad_table e)
+    go (bad f) e = (Err (not_translated.Table f), before, answers.bad_table e)
     go (got l n) e = room (either most_key_table (length before))
       where
         room : (most_key_table ≤ length before) ⊎ (length before < most_key_table) → (a : Translated) × (x : List ℕ) × Answers table before a x
-        room (inr h) = (translated.Room, before, answers.room e h)
+        room (inr h) = (Err not_translated.Room, before, answers.room e h)
         room (inl h) =
             let K = translate (teller (table_of l)) (table_of l) in
-            (translated.Done (length (key_table_bytes K)), placed before 0 (key_table_bytes K), answers.done e h (the_function_translates (table_of l) (table_form table l n b e).1))
+            (Ok (length (key_table_bytes K)), placed before 0 (key_table_bytes K), answers.done e h (the_function_translates (table_of l) (table_form table l n b e).1))
 
 -- ---- the decision over a key table
 pub key_decides_something : (key_table key_request : List ℕ) → Bytes key_table → (a : KeyAnswer) × KeyDecides key_table key_request a

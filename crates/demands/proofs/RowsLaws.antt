@@ -8,6 +8,7 @@ use Prim.Native.Nat.{ℕ, zero, suc, ◌+◌, ◌<◌, ◌≤◌}
 use native.Mathlib.Omega.{arith}
 use lib.Dec.{T as T', T_not, ltb, eqb, ltb→lt, eqb_refl}
 use lib.ListN.{length, take}
+use Rattle.std.specs.Prelude.{Ok}
 use Rattle.rules.specs.Lists.{At, In, NoneTwice}
 use Rattle.rules.specs.Tables.{Target, to_key, to_name, Request, Table}
 use Rattle.rules.specs.Ranges.{Between, Good, GoodTarget, GoodPath}
@@ -33,9 +34,7 @@ use Rattle.records.proofs.RequestsForm.{request_reads}
 use Rattle.wire.proofs.NumberLaws.{bytes_short}
 use Rattle.table.specs.ReadTable.{Laid as LaidTable, table_of, read_table, table_bytes}
 use Rattle.table.proofs.Theorems.{table_reads}
-use Rattle.checker.specs.Promise.{ChecksGood, bad_request, not_derivation, accepted, Checks, bad_table, good_table}
-use Rattle.checker.specs.declared.Checked.{Checked}
-use Rattle.checker.specs.declared.Checked.TheVariants as checked
+use Rattle.checker.specs.Promise.{Checked, ChecksGood, bad_request, not_derivation, accepted, Checks, bad_table, good_table}
 use Rattle.decision.specs.Promise.{sheet_size, SheetFilled, DecidesGood, Decides}
 use Rattle.decision.specs.Promise as promise
 use Rattle.decision.specs.Promise.{Decided}
@@ -45,9 +44,7 @@ use Rattle.decision.proofs.ListedLaws.{ordered_below}
 use Rattle.decision.proofs.WritingLaws.{many_short, derivation_size}
 use Rattle.table.specs.ReadKeyTable.{most_key_table}
 use Rattle.wire.specs.Placed.{placed}
-use Rattle.translation.specs.Promise.{Answers}
-use Rattle.translation.specs.declared.Translated.{Translated}
-use Rattle.translation.specs.declared.Translated.TheVariants as translated
+use Rattle.translation.specs.Promise.{Translated, Answers}
 use Rattle.translation.proofs.Theorems.{translation_one}
 use Rattle.kernel.specs.Answers.{of_decided, of_checked}
 use Rattle.demands.specs.Rows.{T}
@@ -165,7 +162,7 @@ good_judged request r e derivation v w o c a (accepted {r = s} {v = u} {d = d} f
     held = (the_check_is_right specimen specimen_good.names r v d.0).1 (subst (λ (z : Derivation). Holds specimen r z d.0) w.2
         (subst (λ (z : Laid). Holds specimen r z.derivation d.0) (some_one g w.1) (subst (λ (z : Request). Holds specimen z u.derivation d.0) (some_one f e) h)))
 
-    go : (o : Option ℕ) → holds_at specimen r v ≡ o → Judged (checked.Accepted d) o
+    go : (o : Option ℕ) → holds_at specimen r v ≡ o → Judged (Ok d) o
     go none c = absurd (some_or_none held c)
     go (some b) c = (refl, some_one held c)
 
@@ -204,8 +201,8 @@ sheet_row s ex size request sheet₀ derivation₀ x v a (promise.good_table f h
     good_sheet s ex size (subst (λ (t : Table). DecidesGood t request sheet₀ derivation₀ a x v) specimen_read.3 (subst (λ (l : LaidTable). DecidesGood (table_of l) request sheet₀ derivation₀ a x v) (got_one f specimen_read.2) h)) n
 
 -- ---- translations
-pub translation_row : (table key_table : List ℕ) → Bytes table → ((before : List ℕ) → most_key_table ≤ length before → Answers table before (translated.Done (length key_table)) (placed before 0 key_table))
-    → (before after : List ℕ) (a : Translated) → most_key_table ≤ length before → Answers table before a after → (a ≡ translated.Done (length key_table)) × (after ≡ placed before 0 key_table)
+pub translation_row : (table key_table : List ℕ) → Bytes table → ((before : List ℕ) → most_key_table ≤ length before → Answers table before (Ok (length key_table)) (placed before 0 key_table))
+    → (before after : List ℕ) (a : Translated) → most_key_table ≤ length before → Answers table before a after → (a ≡ Ok (length key_table)) × (after ≡ placed before 0 key_table)
 translation_row table key_table b f before after a r h = translation_one table before b h (f before r)
 
 -- ---- bytes

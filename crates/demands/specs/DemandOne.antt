@@ -2,14 +2,12 @@
 -- has its number and its place in the order, and what it leaves in each buffer is fixed.
 use Rattle.std.specs.Prelude.{◌≡◌, List, ℕ, ◌≤◌}
 use Rattle.wire.specs.Number.{Bytes}
-use Rattle.checker.specs.Promise.{Checks}
-use Rattle.checker.specs.declared.Checked.{Checked}
+use Rattle.checker.specs.Promise.{Checked, Checks}
 use Rattle.decision.specs.Promise.{Decides, Alike}
 use Rattle.decision.specs.Promise.{Decided}
 use Rattle.keytable.specs.Deciding.{KeyDecides}
 use Rattle.keytable.specs.declared.KeyAnswer.{KeyAnswer}
-use Rattle.translation.specs.Promise.{Answers}
-use Rattle.translation.specs.declared.Translated.{Translated}
+use Rattle.translation.specs.Promise.{Translated, Answers}
 use Rattle.kernel.specs.Answers.{of_decided, of_checked, of_translated, of_key_answer}
 
 -- The decision has an answer of the list; any other is alike: equal but for which derivation of the greatest depth is handed out. No refusal touches the

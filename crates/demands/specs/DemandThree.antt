@@ -1,6 +1,6 @@
 -- DEMAND 3. Replacing names by keys beforehand changes no decision: the translated table has only keys, and every accepted request whose subject has a meaning
 -- gets the same grant, depth or denial from it, by rules that know no names. Records naming someone without a meaning give access to nobody, also not to each other.
-use Rattle.std.specs.Prelude.{◌≡◌, List, ◌↔◌, ℕ, ◌≤◌, length, take}
+use Rattle.std.specs.Prelude.{Ok, ◌≡◌, List, ◌↔◌, ℕ, ◌≤◌, length, take}
 use Rattle.std.proofs.Math.Option.{some}
 use Rattle.rules.specs.Tables.{Request, AccessRecord, Delegation}
 use Rattle.rules.specs.Names.{TargetMeans, IsSelf}
@@ -19,15 +19,13 @@ use Rattle.std.specs.Prelude.{Ok, Err}
 use Rattle.keytable.specs.Deciding.{KeyDecides}
 use Rattle.keytable.specs.declared.KeyAnswer.{KeyAnswer}
 use Rattle.keytable.specs.declared.KeyAnswer.TheVariants as by_keys
-use Rattle.translation.specs.Promise.{Answers}
-use Rattle.translation.specs.declared.Translated.{Translated}
-use Rattle.translation.specs.declared.Translated.TheVariants as translated
+use Rattle.translation.specs.Promise.{Translated, Answers}
 use Rattle.demands.specs.DemandTwo.{Accepted, Room}
 
 -- The translation succeeds, and its bytes load as a key table, which has nothing but keys in it.
 pub record Succeeds (a : Translated) (after : List ℕ) : Type 0 where
   pub length' : ℕ
-  pub done : a ≡ translated.Done length'
+  pub done : a ≡ Ok length'
   pub key_laid : KeyLaid
   pub loads : read_key_table (take length' after) ≡ got key_laid length'
 
@@ -60,7 +58,7 @@ pub record DemandThree : Type 0 where
   pub asked : (table request : List ℕ) → Bytes table → Bytes request → (x : Accepted table request) → (key_request : List ℕ) × AsksTheSame table request key_request x
   -- and gets the same answer.
   pub same : (table before after request key_request sheet₀ derivation₀ sheet derivation : List ℕ) (n : ℕ) (a : Decided) (b : KeyAnswer) → Bytes table
-      → Answers table before (translated.Done n) after → (x : Accepted table request) → AsksTheSame table request key_request x → Room sheet₀ derivation₀ a
+      → Answers table before (Ok n) after → (x : Accepted table request) → AsksTheSame table request key_request x → Room sheet₀ derivation₀ a
       → Decides table request sheet₀ derivation₀ a sheet derivation → KeyDecides (take n after) key_request b → SameAnswer a b
   -- A record that names someone without a meaning gives access to nobody: it could as well be taken out.
   pub idle : (table table' request sheet₀ derivation₀ sheet derivation sheet' derivation' : List ℕ) (a b : Decided) → Bytes table → Bytes table' → (x : Accepted table request) (y : Accepted table' request)

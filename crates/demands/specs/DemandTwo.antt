@@ -1,6 +1,6 @@
 -- DEMAND 2. Given room, an accepted request whose subject has a meaning is granted exactly if the published rules derive it, at the greatest depth they derive.
 -- Each grant brings a derivation that the separate checker accepts at that depth; the checker accepts exactly the derivations that hold in the tables it is shown.
-use Rattle.std.specs.Prelude.{◌≡◌, List, ◌↔◌, ℕ, ◌≤◌, length, take}
+use Rattle.std.specs.Prelude.{Ok, ◌≡◌, List, ◌↔◌, ℕ, ◌≤◌, length, take}
 use Rattle.std.proofs.Math.Option.{some}
 use Rattle.rules.specs.Tables.{Request}
 use Rattle.rules.specs.Names.{TargetMeans}
@@ -13,9 +13,7 @@ use Rattle.records.specs.Parsed.{got}
 use Rattle.records.specs.Requests.{read_request}
 use Rattle.records.specs.DerivationBytes.{Laid, read_derivation, most_derivation}
 use Rattle.table.specs.ReadTable.{Laid as LaidTable, table_of, read_table}
-use Rattle.checker.specs.Promise.{Checks}
-use Rattle.checker.specs.declared.Checked.{Checked}
-use Rattle.checker.specs.declared.Checked.TheVariants as checked
+use Rattle.checker.specs.Promise.{Checked, Checks}
 use Rattle.decision.specs.Promise.{sheet_size, Decides}
 use Rattle.decision.specs.Promise.{Decided}
 use Rattle.decision.specs.declared.Refusal.TheVariants as undecided
@@ -60,6 +58,6 @@ pub record DemandTwo : Type 0 where
       → Room sheet₀ derivation₀ a → GrantedExactly table request x a
   -- What the decision wrote is accepted by the checker at the same depth.
   pub written : (table request sheet₀ derivation₀ sheet derivation : List ℕ) (d : Depth) (n : ℕ) → Decides table request sheet₀ derivation₀ (Ok (record { depth = d; length = n })) sheet derivation
-      → Checks table request (take n derivation) (checked.Accepted d)
+      → Checks table request (take n derivation) (Ok d)
   -- Accepted is exactly what holds in the table that is shown, wherever the derivation comes from.
-  pub accepted : (table request derivation : List ℕ) (a : Checked) (d : Depth) → Checks table request derivation a → (a ≡ checked.Accepted d) ↔ HoldsHere table request derivation d.0
+  pub accepted : (table request derivation : List ℕ) (a : Checked) (d : Depth) → Checks table request derivation a → (a ≡ Ok d) ↔ HoldsHere table request derivation d.0

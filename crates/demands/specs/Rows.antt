@@ -1,15 +1,12 @@
 -- P1 TO P10: the rows of the scope paper that are proved, over its bytes.
-use Rattle.std.specs.Prelude.{◌≡◌, ◌⊎◌, List, [], ◌∷◌, ℕ, ◌≤◌, length, take}
+use Rattle.std.specs.Prelude.{Ok, ◌≡◌, ◌⊎◌, List, [], ◌∷◌, ℕ, ◌≤◌, length, take}
 use Rattle.wire.specs.Placed.{placed}
 use Rattle.records.specs.DerivationBytes.{most_derivation}
 use Rattle.table.specs.ReadKeyTable.{most_key_table}
-use Rattle.checker.specs.Promise.{Checks}
-use Rattle.checker.specs.declared.Checked.{Checked}
+use Rattle.checker.specs.Promise.{Checked, Checks}
 use Rattle.decision.specs.Promise.{sheet_size, Decides}
 use Rattle.decision.specs.Promise.{Decided}
-use Rattle.translation.specs.Promise.{Answers}
-use Rattle.translation.specs.declared.Translated.{Translated}
-use Rattle.translation.specs.declared.Translated.TheVariants as translated
+use Rattle.translation.specs.Promise.{Answers, Translated}
 use Rattle.kernel.specs.Answers.{of_decided, of_checked}
 
 -- The specimen table, T.
@@ -38,7 +35,7 @@ Says (decision request n d) = (sheet₀ derivation₀ x v : List ℕ) (a : Decid
     → ((of_decided a).number ≡ n) × ((of_decided a).depth ≡ d)
 Says (check request derivation n d) = (a : Checked) → Checks T request derivation a → ((of_checked a).number ≡ n) × ((of_checked a).depth ≡ d)
 Says (translation table key_table) = (before after : List ℕ) (a : Translated) → most_key_table ≤ length before → Answers table before a after
-    → (a ≡ translated.Done (length key_table)) × (after ≡ placed before 0 key_table)
+    → (a ≡ Ok (length key_table)) × (after ≡ placed before 0 key_table)
 
 abbrev pub rows : List Row
 rows =

@@ -1,12 +1,10 @@
 -- Worthless builds, and the row that shuts each out: whatever meets the promises does not do what it does.
-use Rattle.std.specs.Prelude.{◌≡◌, List, [], ◌∷◌, ℕ, ◌≤◌, length}
+use Rattle.std.specs.Prelude.{Ok, ◌≡◌, List, [], ◌∷◌, ℕ, ◌≤◌, length}
 use Rattle.records.specs.DerivationBytes.{most_derivation}
 use Rattle.table.specs.ReadKeyTable.{most_key_table}
 use Rattle.decision.specs.Promise.{sheet_size, Decides}
 use Rattle.decision.specs.Promise.{Decided}
-use Rattle.translation.specs.Promise.{Answers}
-use Rattle.translation.specs.declared.Translated.{Translated}
-use Rattle.translation.specs.declared.Translated.TheVariants as translated
+use Rattle.translation.specs.Promise.{Answers, Translated}
 use Rattle.kernel.specs.Answers.{of_decided}
 use Rattle.demands.specs.Rows.{T}
 
@@ -24,4 +22,4 @@ pub record Worthless : Type 0 where
   -- Invent a depth: P2's grant is at depth 1 and no other.
   pub invent_depth : (a : Decided) → Over (0x00 ∷ 0x14 ∷ 0x00 ∷ 0x07 ∷ 0x02 ∷ []) a → ((of_decided a).depth ≡ 1 → ⊥) → ⊥
   -- An empty key table: T's is not three bytes long.
-  pub empty_key_table : (before after : List ℕ) (a : Translated) → most_key_table ≤ length before → Answers T before a after → a ≡ translated.Done 3 → ⊥
+  pub empty_key_table : (before after : List ℕ) (a : Translated) → most_key_table ≤ length before → Answers T before a after → a ≡ Ok 3 → ⊥

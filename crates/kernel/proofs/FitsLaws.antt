@@ -11,13 +11,13 @@ use Rattle.records.specs.DerivationBytes.{Laid, derivation_fields, read_derivati
 use Rattle.records.specs.declared.faults.Fault.{Fault}
 use Rattle.records.proofs.RequestsForm.{whole_form}
 use Rattle.checker.specs.Promise as checks
-use Rattle.checker.specs.declared.Checked.{Checked}
+use Rattle.checker.specs.Promise.{Checked}
 use Rattle.decision.specs.Promise as decides
 use Rattle.decision.specs.Promise.{Decided}
 use Rattle.keytable.specs.Deciding as by_keys
 use Rattle.keytable.specs.declared.KeyAnswer.{KeyAnswer}
 use Rattle.translation.specs.Promise as translates
-use Rattle.translation.specs.declared.Translated.{Translated}
+use Rattle.translation.specs.Promise.{Translated}
 use Rattle.translation.proofs.Theorems.{translation_loads}
 use Rattle.kernel.specs.Answers.{bare, succeeded, of_fault, of_decided, of_checked, of_translated, of_key_answer, Fits}
 use Rattle.kernel.proofs.PlacesLaws.{table_fault, key_table_fault}

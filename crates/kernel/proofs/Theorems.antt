@@ -3,12 +3,13 @@ use mathlib.Core.Path.{◌≡◌, refl, sym, ◌∙◌, ap}
 use mathlib.Core.List.{List}
 use Prim.Native.Nat.{ℕ}
 use native.Mathlib.Omega.{arith}
+use Rattle.std.specs.Prelude.{Ok, Err}
 use Rattle.rules.specs.declared.Depth.{Depth}
 use Rattle.wire.specs.Number.{Bytes}
 use Rattle.records.specs.declared.faults.Kind.{Kind}
 use Rattle.records.specs.declared.faults.Kind.TheVariants as kind
-use Rattle.checker.specs.declared.Checked.{Checked}
-use Rattle.checker.specs.declared.Checked.TheVariants as checked
+use Rattle.checker.specs.Promise.{Checked}
+use Rattle.checker.specs.declared.Refusal.TheVariants as not_checked
 use Rattle.checker.proofs.Theorems.{checks_one}
 use Rattle.std.specs.Prelude.{Ok, Err}
 use Rattle.decision.specs.Promise.{Decided, Alike}
@@ -59,11 +60,11 @@ zero_is_granted (Err undecided.Unnamed) e = absurd (omega (arith, e))
 zero_is_granted (Err undecided.Denied) e = absurd (omega (arith, e))
 zero_is_granted (Err undecided.Overrun) e = absurd (omega (arith, e))
 
-pub zero_is_accepted : (a : Checked) → (of_checked a).number ≡ 0 → (d : Depth) × (a ≡ checked.Accepted d)
-zero_is_accepted (checked.Accepted d) e = (d, refl)
-zero_is_accepted (checked.BadTable f) e = absurd (fault_is_not_zero f.kind e)
-zero_is_accepted checked.BadRequest e = absurd (omega (arith, e))
-zero_is_accepted checked.NotDerivation e = absurd (omega (arith, e))
+pub zero_is_accepted : (a : Checked) → (of_checked a).number ≡ 0 → (d : Depth) × (a ≡ Ok d)
+zero_is_accepted (Ok d) e = (d, refl)
+zero_is_accepted (Err (not_checked.Table f)) e = absurd (fault_is_not_zero f.kind e)
+zero_is_accepted (Err not_checked.Request) e = absurd (omega (arith, e))
+zero_is_accepted (Err not_checked.Derivation) e = absurd (omega (arith, e))
 
 pub zero_is_granted_by_keys : (a : KeyAnswer) → (of_key_answer a).number ≡ 0 → (d : Depth) × (a ≡ by_keys.Granted d)
 zero_is_granted_by_keys (by_keys.Granted d) e = (d, refl)

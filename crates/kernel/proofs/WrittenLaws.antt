@@ -9,7 +9,7 @@ use Rattle.wire.specs.Number.{Bytes}
 use Rattle.decision.specs.Promise as decides
 use Rattle.decision.specs.Promise.{Decided}
 use Rattle.translation.specs.Promise as translates
-use Rattle.translation.specs.declared.Translated.{Translated}
+use Rattle.translation.specs.Promise.{Translated}
 use Rattle.translation.proofs.Theorems.{translation_loads}
 use Rattle.kernel.specs.Answers.{of_decided, of_translated}
 use Rattle.kernel.specs.Promises.{TellsDecision, TellsTranslation}

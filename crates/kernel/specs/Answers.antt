@@ -3,14 +3,14 @@ use Rattle.std.specs.Prelude.{ℕ, ◌<◌, ◌^◌, Ok, Err}
 use Rattle.records.specs.declared.faults.Kind.{Kind}
 use Rattle.records.specs.declared.faults.Kind.TheVariants as kind
 use Rattle.records.specs.declared.faults.Fault.{Fault}
-use Rattle.checker.specs.declared.Checked.{Checked}
-use Rattle.checker.specs.declared.Checked.TheVariants as checked
 use Rattle.decision.specs.Promise.{Decided}
 use Rattle.decision.specs.declared.Refusal.TheVariants as undecided
+use Rattle.checker.specs.Promise.{Checked}
+use Rattle.checker.specs.declared.Refusal.TheVariants as not_checked
 use Rattle.keytable.specs.declared.KeyAnswer.{KeyAnswer}
 use Rattle.keytable.specs.declared.KeyAnswer.TheVariants as by_keys
-use Rattle.translation.specs.declared.Translated.{Translated}
-use Rattle.translation.specs.declared.Translated.TheVariants as translated
+use Rattle.translation.specs.Promise.{Translated}
+use Rattle.translation.specs.declared.Refusal.TheVariants as not_translated
 use Rattle.kernel.specs.declared.answers.Answer.{Answer}
 
 -- ---- the numbers
@@ -77,16 +77,16 @@ of_decided (Err undecided.Overrun) = bare overrun
 
 -- The checker: an acceptance carries its depth.
 abbrev pub of_checked : Checked → Answer
-of_checked (checked.Accepted d) = succeeded d.0 0
-of_checked (checked.BadTable e) = of_fault e
-of_checked checked.BadRequest = bare wrong_request
-of_checked checked.NotDerivation = bare not_a_derivation
+of_checked (Ok d) = succeeded d.0 0
+of_checked (Err (not_checked.Table e)) = of_fault e
+of_checked (Err not_checked.Request) = bare wrong_request
+of_checked (Err not_checked.Derivation) = bare not_a_derivation
 
 -- The translation: a finished one carries its length.
 abbrev pub of_translated : Translated → Answer
-of_translated (translated.Done n) = succeeded 0 n
-of_translated (translated.BadTable e) = of_fault e
-of_translated translated.Room = bare room
+of_translated (Ok n) = succeeded 0 n
+of_translated (Err (not_translated.Table e)) = of_fault e
+of_translated (Err not_translated.Room) = bare room
 
 -- The decision over a key table: a grant carries its depth alone.
 abbrev pub of_key_answer : KeyAnswer → Answer

@@ -1,13 +1,11 @@
 -- What each function of the interface promises: the record that a host gets is that of an answer which the part behind it promises,
 -- for these bytes, with the lent buffers before and after.
 use Rattle.std.specs.Prelude.{◌≡◌, List, ℕ}
-use Rattle.checker.specs.Promise.{Checks}
-use Rattle.checker.specs.declared.Checked.{Checked}
+use Rattle.checker.specs.Promise.{Checks, Checked}
 use Rattle.decision.specs.Promise.{Decided, Decides}
 use Rattle.keytable.specs.Deciding.{KeyDecides}
 use Rattle.keytable.specs.declared.KeyAnswer.{KeyAnswer}
-use Rattle.translation.specs.Promise.{Answers}
-use Rattle.translation.specs.declared.Translated.{Translated}
+use Rattle.translation.specs.Promise.{Translated, Answers}
 use Rattle.kernel.specs.Answers.{of_decided, of_checked, of_translated, of_key_answer}
 use Rattle.kernel.specs.declared.answers.Answer.{Answer}
 

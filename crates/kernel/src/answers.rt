@@ -2,11 +2,10 @@
 ghost use Rattle.std.specs.Prelude.{◌≡◌};
 ghost use Rattle.kernel.specs.Answers.{fault_number, succeeded, bare, of_fault, of_decided, of_checked, of_translated, of_key_answer, Fits};
 
-use checker::Checked;
 use decision::Grant;
 use keytable::KeyAnswer;
 use records::faults::{Fault, Kind};
-use translation::Translated;
+use rules::Depth;
 
 pub const DONE: u32 = 0;
 
@@ -104,27 +103,27 @@ pub fn of_decided(answer: Result<Grant, decision::Refusal>) -> Answer
 }
 
 // The checker's answer.
-pub fn of_checked(answer: Checked) -> Answer
+pub fn of_checked(answer: Result<Depth, checker::Refusal>) -> Answer
     requires { Fits (of_checked answer) }
     ensures { result ≡ of_checked answer }
 {
     match answer {
-        Checked::Accepted(depth) => success(depth.number(), 0),
-        Checked::BadTable(fault) => of_fault(fault),
-        Checked::BadRequest => refusal(WRONG_REQUEST),
-        Checked::NotDerivation => refusal(NOT_A_DERIVATION),
+        Ok(depth) => success(depth.number(), 0),
+        Err(checker::Refusal::Table(fault)) => of_fault(fault),
+        Err(checker::Refusal::Request) => refusal(WRONG_REQUEST),
+        Err(checker::Refusal::Derivation) => refusal(NOT_A_DERIVATION),
     }
 }
 
 // The translation's answer.
-pub fn of_translated(answer: Translated) -> Answer
+pub fn of_translated(answer: Result<usize, translation::Refusal>) -> Answer
     requires { Fits (of_translated answer) }
     ensures { result ≡ of_translated answer }
 {
     match answer {
-        Translated::Done(length) => success(0, length),
-        Translated::BadTable(fault) => of_fault(fault),
-        Translated::Room => refusal(ROOM),
+        Ok(length) => success(0, length),
+        Err(translation::Refusal::Table(fault)) => of_fault(fault),
+        Err(translation::Refusal::Room) => refusal(ROOM),
     }
 }
 
