@@ -1,26 +1,21 @@
 -- The answer to a request, by the code that settles it.
-use mathlib.Core.Path.{◌≡◌, refl, sym, ◌∙◌, ap, subst}
+use mathlib.Core.Path.{◌≡◌, refl, sym, ap, subst}
 use mathlib.Core.List.{List}
 use mathlib.Core.Option.{Option, none, some}
-use Prim.Native.Nat.{ℕ, zero, suc, ◌-◌, ◌≤◌}
+use Prim.Native.Nat.{ℕ, zero, suc}
 use native.Mathlib.Omega.{arith}
-use Rattle.std.specs.Prelude.{Option as Answer, Some, None}
-use Rattle.rules.specs.Depths.{top, made}
+use Rattle.std.specs.Prelude.{Some, None}
 use Rattle.rules.specs.KeyTables.{KeyTable, KeyRequest}
 use Rattle.rules.specs.Verdicts.{DecidesByKeys}
 use Rattle.rules.specs.Greatest.{verdict_of}
-use Rattle.rules.specs.declared.Depth.{Depth}
 use Rattle.records.specs.Parsed.{got}
 use Rattle.records.specs.Requests.{read_key_request, held_as, key_request_value}
 use Rattle.records.specs.declared.requests.KeyRequest.{KeyRequest as KeyRequestValue}
 use Rattle.table.specs.ReadKeyTable.{KeyLaid, key_table_of, read_key_table}
-use Rattle.reach.proofs.CodesLaws.{code_depth}
 use Rattle.keytable.specs.Loading.{key_table_at}
 use Rattle.keytable.specs.Matching.{key_request_of}
-use Rattle.keytable.specs.Deciding.{KeyDecides, denied, granted}
+use Rattle.keytable.specs.Deciding.{KeyAnswer, KeyDecides, denied, granted}
 use Rattle.keytable.specs.Settling.{answer_of}
-use Rattle.keytable.specs.declared.KeyAnswer.{KeyAnswer}
-use Rattle.keytable.specs.declared.KeyAnswer.TheVariants as answer
 use Rattle.keytable.proofs.KnownLaws.{table_at_lem}
 
 -- ---- what was asked
@@ -31,15 +26,6 @@ asked_none (some x) e = let z : ◌≡◌ {A = ℕ} 0 1 = cc in absurd (omega ar
 pub asked_some : (o : Option KeyRequest) {v : KeyRequestValue} → Some v ≡ held_as key_request_value o → o ≡ some (key_request_of v)
 asked_some none e = let z : ◌≡◌ {A = ℕ} 0 1 = cc in absurd (omega arith)
 asked_some (some x) {v = v} e = let q : v ≡ key_request_value x = cc in ap some (sym (ap key_request_of q))
-
--- ---- the answer of a code
-pub code_denied : (c : ℕ) → c ≡ 0 → answer.Denied ≡ answer_of c
-code_denied c e = ap answer_of (sym e)
-
-pub code_granted : (c : ℕ) → (c ≡ 0 → ⊥) → c ≤ suc top → (m : Answer Depth) → m ≡ made (c - 1) → (d : Depth) → m ≡ Some d → answer.Granted d ≡ answer_of c
-code_granted c any most m is d e =
-    let p : suc (c - 1) ≡ c = omega arith in
-    ap answer.Granted (code_depth c any most m is d e) ∙ ap answer_of p
 
 -- ---- the decision
 pub settles : (table asks : List ℕ) (l : KeyLaid) (end : ℕ) → read_key_table table ≡ got l end → (r : KeyRequest) → read_key_request asks ≡ some r

@@ -10,9 +10,9 @@ use Rattle.rules.proofs.GreatestLaws.{has_one}
 use Rattle.records.specs.Parsed.{Parsed, got}
 use Rattle.records.proofs.ParsedLaws.{got_or_bad, some_or_none, got_one, bad_one, some_one}
 use Rattle.table.specs.ReadKeyTable.{KeyLaid, key_table_of}
-use Rattle.keytable.specs.Deciding.{KeyDecides, fault, request, denied, granted}
-use Rattle.keytable.specs.declared.KeyAnswer.{KeyAnswer}
-use Rattle.keytable.specs.declared.KeyAnswer.TheVariants as answer
+use Rattle.std.specs.Prelude.{Ok, Err}
+use Rattle.keytable.specs.Deciding.{KeyAnswer, KeyDecides, fault, request, denied, granted}
+use Rattle.keytable.specs.declared.KeyRefusal.TheVariants as refusal
 
 -- Bytes hold one table and one request, and these have one verdict.
 one_verdict : {p : Parsed KeyLaid} {o : Option KeyRequest} {l l' : KeyLaid} {end end' : ℕ} {r r' : KeyRequest} {v w : Verdict} → p ≡ got l end → p ≡ got l' end' → o ≡ some r → o ≡ some r'
@@ -24,7 +24,7 @@ one_verdict {l = l} {l' = l'} {r = r} {r' = r'} a a' b b' h h' =
 
 -- TWO ANSWERS THAT MEET THE PROMISE ARE EQUAL.
 pub key_decision_one : {table asks : List ℕ} {a b : KeyAnswer} → KeyDecides table asks a → KeyDecides table asks b → a ≡ b
-key_decision_one (fault p) (fault p') = ap answer.Fault (bad_one p p')
+key_decision_one (fault p) (fault p') = ap (λ e. Err (refusal.Table e)) (bad_one p p')
 key_decision_one (fault p) (request p' q') = absurd (got_or_bad p' p)
 key_decision_one (fault p) (denied p' q' v') = absurd (got_or_bad p' p)
 key_decision_one (fault p) (granted p' q' v') = absurd (got_or_bad p' p)
@@ -42,4 +42,4 @@ key_decision_one (granted {d = d} p q v) (denied p' q' v') = let e = one_verdict
 key_decision_one (granted {d = d} p q v) (granted {d = d'} p' q' v') =
     let e = one_verdict p p' q q' v v' in
     let n : d.0 ≡ d'.0 = cc e in
-    ap answer.Granted (λ i. record { 0 = n i })
+    ap Ok (λ i. record { 0 = n i })

@@ -3,5 +3,5 @@ pub mod Loading
 pub mod Keeping
 pub mod Nodes
 pub mod Matching
-pub mod Settling
 pub mod Deciding
+pub mod Settling

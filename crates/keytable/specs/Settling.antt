@@ -1,13 +1,13 @@
 -- Settling a request by a code: 0 for no access, and d + 1 for access at d.
-use Rattle.std.specs.Prelude.{List, ℕ, zero, suc, ◌≤◌}
+use Rattle.std.specs.Prelude.{List, ℕ, zero, suc, ◌≤◌, Ok, Err}
 use Rattle.rules.specs.Depths.{top}
 use Rattle.rules.specs.Sheets.{entry}
 use Rattle.rules.specs.KeyTables.{KeyTable, KeyRequest}
 use Rattle.rules.specs.Verdicts.{DecidesByKeys}
 use Rattle.rules.specs.Greatest.{verdict_of}
 use Rattle.keytable.specs.Matching.{MatchedOf}
-use Rattle.keytable.specs.declared.KeyAnswer.{KeyAnswer}
-use Rattle.keytable.specs.declared.KeyAnswer.TheVariants as answer
+use Rattle.keytable.specs.Deciding.{KeyAnswer}
+use Rattle.keytable.specs.declared.KeyRefusal.TheVariants as refusal
 
 -- A row of codes.
 abbrev pub Codes : List ℕ → Type 0
@@ -20,5 +20,5 @@ pub record Settles (edges start : List ℕ) (code : ℕ) : Type 0 where
 
 -- The answer that the code stands for.
 abbrev pub answer_of : ℕ → KeyAnswer
-answer_of zero = answer.Denied
-answer_of (suc d) = answer.Granted (record { 0 = d })
+answer_of zero = Err refusal.Denied
+answer_of (suc d) = Ok (record { 0 = d })

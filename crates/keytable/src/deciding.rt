@@ -11,7 +11,7 @@ ghost use Rattle.keytable.specs.Keeping.{Known};
 ghost use Rattle.keytable.specs.Matching.{key_request_of};
 ghost use Rattle.keytable.specs.Settling.{Codes, Settles, answer_of};
 
-use crate::KeyAnswer;
+use crate::KeyRefusal;
 use crate::collecting::{KeptTable, collect};
 use reach::reach;
 use rules::Depth;
@@ -38,16 +38,13 @@ pub fn greatest_code(kept: &KeptTable<'_>) -> u8
     first_code(&edges[..m], &mut best)
 }
 
-// The answer that a code stands for.
-pub fn answer_of(code: u8) -> KeyAnswer
+// The answer that a code stands for: the depth that is one less, or none.
+pub fn answer_of(code: u8) -> Result<Depth, KeyRefusal>
     requires { code ≤ suc top }
     ensures { result ≡ answer_of code }
 {
-    if code == 0 {
-        return KeyAnswer::Denied;
-    }
-    match Depth::new(u32::from(code) - 1) {
-        Some(depth) => KeyAnswer::Granted(depth),
-        None => KeyAnswer::Denied,
-    }
+    u32::from(code)
+        .checked_sub(1)
+        .and_then(Depth::new)
+        .ok_or(KeyRefusal::Denied)
 }

@@ -32,17 +32,10 @@ pub mod nodes;
 pub const MOST_KEY_TABLE: usize = 16384;
 
 // How many records of each kind there are, and where the first of each begins.
-#[derive(Clone, Copy)]
+#[derive(Clone, Copy, PartialEq, Eq)]
 pub struct KeySections {
     pub accesses: Section,
     pub delegations: Section,
-}
-
-// A key table's sections, or its fault.
-#[derive(Clone, Copy)]
-pub enum KeyLoaded {
-    Good(KeySections),
-    Bad(Fault),
 }
 
 // The sections of a key table, and of each how many records are for what is asked.
@@ -90,47 +83,51 @@ fn load_asked(
 }
 
 // Reads the key table whole.
-pub fn load_key_table(table: &[u8]) -> KeyLoaded
+pub fn load_key_table(table: &[u8]) -> Result<KeySections, Fault>
     ensures { result ≡ key_loaded_of (read_key_table table.now) }
 {
     let mut accesses = [0; 256];
     let mut delegations = [0; 512];
-    match load_asked(table, NOTHING, &mut accesses, &mut delegations) {
-        Ok(kept) => KeyLoaded::Good(KeySections {
-            accesses: kept.accesses.section,
-            delegations: kept.delegations.section,
-        }),
-        Err(fault) => KeyLoaded::Bad(fault),
+    let kept = load_asked(table, NOTHING, &mut accesses, &mut delegations)?;
+    Ok(KeySections {
+        accesses: kept.accesses.section,
+        delegations: kept.delegations.section,
+    })
+}
+
+// Why a key request is not granted.
+#[derive(Clone, Copy, PartialEq, Eq)]
+pub enum KeyRefusal {
+    Table(Fault),
+    Request,
+    Denied,
+}
+
+// A table with a fault grants nothing.
+impl From<Fault> for KeyRefusal {
+    ghost use Rattle.keytable.specs.declared.KeyRefusal.TheVariants as refusal;
+
+    ghost from_gives = { λ e r. r ≡ refusal.Table e };
+
+    fn from(fault: Fault) -> KeyRefusal {
+        KeyRefusal::Table(fault)
     }
 }
 
-// What is answered to a key request.
-#[derive(Clone, Copy)]
-pub enum KeyAnswer {
-    Fault(Fault),
-    Request,
-    Denied,
-    Granted(Depth),
-}
-
-// Decides a key request over a key table.
-pub fn decide_by_keys(table: &[u8], request: &[u8]) -> KeyAnswer
+// Decides a key request over a key table: the depth that is granted, or why none is.
+pub fn decide_by_keys(table: &[u8], request: &[u8]) -> Result<Depth, KeyRefusal>
     ensures { KeyDecides table.now request.now result }
 {
     let mut accesses = [0; 256];
     let mut delegations = [0; 512];
     let read = read_key_request(request);
     let asked = read.unwrap_or(NOTHING);
-    match load_asked(table, asked, &mut accesses, &mut delegations) {
-        Err(fault) => KeyAnswer::Fault(fault),
-        Ok(kept) => match read {
-            None => KeyAnswer::Request,
-            Some(request) => answer_of(greatest_code(&KeptTable {
-                table,
-                accesses: &accesses[..kept.accesses.kept],
-                delegations: &delegations[..kept.delegations.kept],
-                request,
-            })),
-        },
-    }
+    let kept = load_asked(table, asked, &mut accesses, &mut delegations)?;
+    let request = read.ok_or(KeyRefusal::Request)?;
+    answer_of(greatest_code(&KeptTable {
+        table,
+        accesses: &accesses[..kept.accesses.kept],
+        delegations: &delegations[..kept.delegations.kept],
+        request,
+    }))
 }
