@@ -15,7 +15,7 @@ use Rattle.checker.specs.Promise.{Checked}
 use Rattle.decision.specs.Promise as decides
 use Rattle.decision.specs.Promise.{Decided}
 use Rattle.keytable.specs.Deciding as by_keys
-use Rattle.keytable.specs.declared.KeyAnswer.{KeyAnswer}
+use Rattle.keytable.specs.Deciding.{KeyAnswer}
 use Rattle.translation.specs.Promise as translates
 use Rattle.translation.specs.Promise.{Translated}
 use Rattle.translation.proofs.Theorems.{translation_loads}

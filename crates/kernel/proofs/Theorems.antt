@@ -15,8 +15,8 @@ use Rattle.std.specs.Prelude.{Ok, Err}
 use Rattle.decision.specs.Promise.{Decided, Alike}
 use Rattle.decision.specs.declared.Refusal.TheVariants as undecided
 use Rattle.decision.proofs.Theorems.{decision_one}
-use Rattle.keytable.specs.declared.KeyAnswer.{KeyAnswer}
-use Rattle.keytable.specs.declared.KeyAnswer.TheVariants as by_keys
+use Rattle.keytable.specs.Deciding.{KeyAnswer}
+use Rattle.keytable.specs.declared.KeyRefusal.TheVariants as by_keys
 use Rattle.keytable.proofs.Theorems.{key_decision_one}
 use Rattle.translation.proofs.Theorems.{translation_one}
 use Rattle.kernel.specs.Answers.{fault_number, of_decided, of_checked, of_translated, of_key_answer}
@@ -66,8 +66,8 @@ zero_is_accepted (Err (not_checked.Table f)) e = absurd (fault_is_not_zero f.kin
 zero_is_accepted (Err not_checked.Request) e = absurd (omega (arith, e))
 zero_is_accepted (Err not_checked.Derivation) e = absurd (omega (arith, e))
 
-pub zero_is_granted_by_keys : (a : KeyAnswer) → (of_key_answer a).number ≡ 0 → (d : Depth) × (a ≡ by_keys.Granted d)
-zero_is_granted_by_keys (by_keys.Granted d) e = (d, refl)
-zero_is_granted_by_keys (by_keys.Fault f) e = absurd (fault_is_not_zero f.kind e)
-zero_is_granted_by_keys by_keys.Request e = absurd (omega (arith, e))
-zero_is_granted_by_keys by_keys.Denied e = absurd (omega (arith, e))
+pub zero_is_granted_by_keys : (a : KeyAnswer) → (of_key_answer a).number ≡ 0 → (d : Depth) × (a ≡ Ok d)
+zero_is_granted_by_keys (Ok d) e = (d, refl)
+zero_is_granted_by_keys (Err (by_keys.Table f)) e = absurd (fault_is_not_zero f.kind e)
+zero_is_granted_by_keys (Err by_keys.Request) e = absurd (omega (arith, e))
+zero_is_granted_by_keys (Err by_keys.Denied) e = absurd (omega (arith, e))

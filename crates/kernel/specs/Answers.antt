@@ -7,10 +7,10 @@ use Rattle.decision.specs.Promise.{Decided}
 use Rattle.decision.specs.declared.Refusal.TheVariants as undecided
 use Rattle.checker.specs.Promise.{Checked}
 use Rattle.checker.specs.declared.Refusal.TheVariants as not_checked
-use Rattle.keytable.specs.declared.KeyAnswer.{KeyAnswer}
-use Rattle.keytable.specs.declared.KeyAnswer.TheVariants as by_keys
 use Rattle.translation.specs.Promise.{Translated}
 use Rattle.translation.specs.declared.Refusal.TheVariants as not_translated
+use Rattle.keytable.specs.Deciding.{KeyAnswer}
+use Rattle.keytable.specs.declared.KeyRefusal.TheVariants as by_keys
 use Rattle.kernel.specs.declared.answers.Answer.{Answer}
 
 -- ---- the numbers
@@ -90,10 +90,10 @@ of_translated (Err not_translated.Room) = bare room
 
 -- The decision over a key table: a grant carries its depth alone.
 abbrev pub of_key_answer : KeyAnswer → Answer
-of_key_answer (by_keys.Granted d) = succeeded d.0 0
-of_key_answer (by_keys.Fault e) = of_fault e
-of_key_answer by_keys.Request = bare wrong_request
-of_key_answer by_keys.Denied = bare denied
+of_key_answer (Ok d) = succeeded d.0 0
+of_key_answer (Err (by_keys.Table e)) = of_fault e
+of_key_answer (Err by_keys.Request) = bare wrong_request
+of_key_answer (Err by_keys.Denied) = bare denied
 
 -- ---- as code holds them
 -- The values fit in 32 bits.

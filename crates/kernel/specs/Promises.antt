@@ -3,8 +3,7 @@
 use Rattle.std.specs.Prelude.{◌≡◌, List, ℕ}
 use Rattle.checker.specs.Promise.{Checks, Checked}
 use Rattle.decision.specs.Promise.{Decided, Decides}
-use Rattle.keytable.specs.Deciding.{KeyDecides}
-use Rattle.keytable.specs.declared.KeyAnswer.{KeyAnswer}
+use Rattle.keytable.specs.Deciding.{KeyDecides, KeyAnswer}
 use Rattle.translation.specs.Promise.{Translated, Answers}
 use Rattle.kernel.specs.Answers.{of_decided, of_checked, of_translated, of_key_answer}
 use Rattle.kernel.specs.declared.answers.Answer.{Answer}

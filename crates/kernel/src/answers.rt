@@ -3,9 +3,9 @@ ghost use Rattle.std.specs.Prelude.{◌≡◌};
 ghost use Rattle.kernel.specs.Answers.{fault_number, succeeded, bare, of_fault, of_decided, of_checked, of_translated, of_key_answer, Fits};
 
 use decision::Grant;
-use keytable::KeyAnswer;
 use records::faults::{Fault, Kind};
 use rules::Depth;
+use keytable::KeyRefusal;
 
 pub const DONE: u32 = 0;
 
@@ -128,14 +128,14 @@ pub fn of_translated(answer: Result<usize, translation::Refusal>) -> Answer
 }
 
 // The answer of the decision over a key table.
-pub fn of_key_answer(answer: KeyAnswer) -> Answer
+pub fn of_key_answer(answer: Result<Depth, KeyRefusal>) -> Answer
     requires { Fits (of_key_answer answer) }
     ensures { result ≡ of_key_answer answer }
 {
     match answer {
-        KeyAnswer::Granted(depth) => success(depth.number(), 0),
-        KeyAnswer::Fault(fault) => of_fault(fault),
-        KeyAnswer::Request => refusal(WRONG_REQUEST),
-        KeyAnswer::Denied => refusal(DENIED),
+        Ok(depth) => success(depth.number(), 0),
+        Err(KeyRefusal::Table(fault)) => of_fault(fault),
+        Err(KeyRefusal::Request) => refusal(WRONG_REQUEST),
+        Err(KeyRefusal::Denied) => refusal(DENIED),
     }
 }
