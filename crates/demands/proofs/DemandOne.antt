@@ -6,6 +6,7 @@ use native.Mathlib.Omega.{arith}
 use Rattle.std.specs.Prelude.{Ok, Err}
 use Rattle.records.specs.declared.faults.Kind.{Kind}
 use Rattle.records.specs.declared.faults.Kind.TheVariants as kind
+use Rattle.std.specs.Prelude.{Ok, Err}
 use Rattle.rules.specs.Tables.{Table}
 use Rattle.checker.specs.Promise.{Checked}
 use Rattle.checker.specs.declared.Refusal.TheVariants as not_checked
@@ -15,8 +16,8 @@ use Rattle.decision.specs.Promise.{Decided}
 use Rattle.decision.specs.declared.Refusal.TheVariants as undecided
 use Rattle.std.specs.Prelude.{Ok, Err}
 use Rattle.decision.proofs.Theorems.{decision_one}
-use Rattle.keytable.specs.declared.KeyAnswer.{KeyAnswer}
-use Rattle.keytable.specs.declared.KeyAnswer.TheVariants as key_answer
+use Rattle.keytable.specs.Deciding.{KeyAnswer}
+use Rattle.keytable.specs.declared.KeyRefusal.TheVariants as key_refusal
 use Rattle.keytable.proofs.Theorems.{key_decision_one}
 use Rattle.translation.specs.Promise.{Translated, Answers}
 use Rattle.translation.specs.Promise as answers
@@ -57,10 +58,10 @@ translated_listed (Err (not_translated.Table e)) = omega (arith, fault_listed e.
 translated_listed (Err not_translated.Room) = omega arith
 
 key_listed : (a : KeyAnswer) → (of_key_answer a).number ≤ 11
-key_listed (key_answer.Granted d) = omega arith
-key_listed (key_answer.Fault e) = omega (arith, fault_listed e.kind)
-key_listed key_answer.Request = omega arith
-key_listed key_answer.Denied = omega arith
+key_listed (Ok d) = omega arith
+key_listed (Err (key_refusal.Table e)) = omega (arith, fault_listed e.kind)
+key_listed (Err key_refusal.Request) = omega arith
+key_listed (Err key_refusal.Denied) = omega arith
 
 -- ---- what refusals leave
 derivation_left_lem : {t : Table} {request sheet₀ derivation₀ x v : List ℕ} {a : Decided} → DecidesGood t request sheet₀ derivation₀ a x v → 1 ≤ (of_decided a).number → v ≡ derivation₀

@@ -6,6 +6,7 @@ use mathlib.Core.Option.{some}
 use Prim.Native.Nat.{ℕ, ◌≤◌}
 use native.Mathlib.Omega.{arith}
 use lib.ListN.{length, take}
+use Rattle.std.specs.Prelude.{Ok, Err}
 use Rattle.rules.specs.Lists.{At}
 use Rattle.rules.specs.Ranges.{Good, GoodKey, GoodTarget, GoodRequest, GoodKeyRequest}
 use Rattle.rules.specs.Tables.{Target, to_key, to_name, Request, Table}
@@ -30,10 +31,9 @@ use Rattle.table.specs.ReadKeyTable.{KeyLaid, key_table_of, read_key_table, most
 use Rattle.table.proofs.Theorems.{table_form}
 use Rattle.table.proofs.FindingLaws.{at_below}
 use Rattle.decision.specs.Promise.{Decided}
-use Rattle.keytable.specs.Deciding.{KeyDecides, fault, request, denied, granted}
-use Rattle.keytable.specs.declared.KeyAnswer.{KeyAnswer}
-use Rattle.keytable.specs.declared.KeyAnswer.TheVariants as by_keys
 use Rattle.translation.specs.Promise.{Translated, Answers, bad_table, room, done}
+use Rattle.keytable.specs.Deciding.{KeyAnswer, KeyDecides, fault, request, denied, granted}
+use Rattle.keytable.specs.declared.KeyRefusal.TheVariants as by_keys
 use Rattle.translation.proofs.GoodLaws.{means_good}
 use Rattle.translation.proofs.Theorems.{Loads, translation_loads}
 use Rattle.demands.specs.DemandTwo.{Accepted}
@@ -54,8 +54,8 @@ succeeds table before b e r (done f h k) = let w = translation_loads table befor
 -- ---- the same answer
 -- The key decision, by what the key has.
 data KeyOutcome (Y : Setting) (k : Key) : KeyAnswer → Type 0 where
-  yes' : {d : Depth} → Has Y k (verdict.granted d.0) → KeyOutcome Y k (by_keys.Granted d)
-  no' : Has Y k verdict.denied → KeyOutcome Y k by_keys.Denied
+  yes' : {d : Depth} → Has Y k (verdict.granted d.0) → KeyOutcome Y k (Ok d)
+  no' : Has Y k verdict.denied → KeyOutcome Y k (Err by_keys.Denied)
 
 key_outcome : {key_table key_request : List ℕ} {b : KeyAnswer} (l : KeyLaid) (n : ℕ) (r : KeyRequest) → read_key_table key_table ≡ got l n → read_key_request key_request ≡ some r → KeyDecides key_table key_request b
     → KeyOutcome (key_setting (key_table_of l) r.asked) r.subject b
@@ -76,7 +76,7 @@ module _ (Y Z : Setting) (k : Key) (same : (d : ℕ) → Granted Y k d ↔ Grant
       let e : d.0 ≡ c.0 = cc (one h g) in
       let f : d ≡ c = λ i. record { 0 = e i } in
       record {
-        granted = λ x. (λ w. let p : d ≡ x = same_depth w.1 in ap by_keys.Granted (sym f ∙ p), λ w. (n, let p : c ≡ x = cc w in ap (λ (z : Depth). granted_at z n) (f ∙ p)));
+        granted = λ x. (λ w. let p : d ≡ x = same_depth w.1 in ap Ok (sym f ∙ p), λ w. (n, let p : c ≡ x = cc w in ap (λ (z : Depth). granted_at z n) (f ∙ p)));
         denied = (λ w. let z : ◌≡◌ {A = ℕ} 0 1 = cc w in absurd (omega arith), λ w. let z : ◌≡◌ {A = ℕ} 0 1 = cc w in absurd (omega arith));
       }
   same_answer a b (yes h) (no' g) = absurd (apart (one h g))

@@ -47,11 +47,10 @@ use Rattle.decision.specs.Promise.{Decided}
 use Rattle.decision.specs.declared.Refusal.TheVariants as undecided
 use Rattle.std.specs.Prelude.{Ok, Err}
 use Rattle.decision.proofs.ListedLaws.{all_below, ordered_below, chain_listed, chain_written}
-use Rattle.keytable.specs.Deciding.{KeyDecides}
+use Rattle.keytable.specs.Deciding.{KeyAnswer, KeyDecides}
 use Rattle.keytable.specs.Deciding as by_keys
-use Rattle.keytable.specs.declared.KeyAnswer.{KeyAnswer}
-use Rattle.keytable.specs.declared.KeyAnswer.TheVariants as key_answer
 use Rattle.translation.specs.Promise.{Translated, Answers}
+use Rattle.keytable.specs.declared.KeyRefusal.TheVariants as key_refusal
 use Rattle.translation.specs.Promise as answers
 use Rattle.translation.specs.declared.Refusal.TheVariants as not_translated
 use Rattle.demands.proofs.FewLaws.{few_below}
@@ -214,13 +213,13 @@ pub key_decides_something : (key_table key_request : List ℕ) → Bytes key_tab
 key_decides_something key_table key_request b = go (read_key_table key_table) refl
   where
     go : (p : Parsed KeyLaid) → read_key_table key_table ≡ p → (a : KeyAnswer) × KeyDecides key_table key_request a
-    go (bad f) e = (key_answer.Fault f, by_keys.fault e)
+    go (bad f) e = (Err (key_refusal.Table f), by_keys.fault e)
     go (got l n) e = asked (read_key_request key_request) refl
       where
         asked : (o : Option KeyRequest) → read_key_request key_request ≡ o → (a : KeyAnswer) × KeyDecides key_table key_request a
-        asked none f = (key_answer.Request, by_keys.request e f)
+        asked none f = (Err key_refusal.Request, by_keys.request e f)
         asked (some r) f = settle (rounds_find_the_greatest_by_keys (key_table_of l) (λ i x a. ((key_table_form key_table l n b e).1.accesses i x a).depth) r)
           where
             settle : {v : Verdict} → DecidesByKeys (key_table_of l) r v → (a : KeyAnswer) × KeyDecides key_table key_request a
-            settle (greatest {d = d} g most) = (key_answer.Granted (record { 0 = d }), by_keys.granted e f (greatest g most))
-            settle (nothing g) = (key_answer.Denied, by_keys.denied e f (nothing g))
+            settle (greatest {d = d} g most) = (Ok (record { 0 = d }), by_keys.granted e f (greatest g most))
+            settle (nothing g) = (Err key_refusal.Denied, by_keys.denied e f (nothing g))

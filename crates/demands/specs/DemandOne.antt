@@ -5,9 +5,8 @@ use Rattle.wire.specs.Number.{Bytes}
 use Rattle.checker.specs.Promise.{Checked, Checks}
 use Rattle.decision.specs.Promise.{Decides, Alike}
 use Rattle.decision.specs.Promise.{Decided}
-use Rattle.keytable.specs.Deciding.{KeyDecides}
-use Rattle.keytable.specs.declared.KeyAnswer.{KeyAnswer}
 use Rattle.translation.specs.Promise.{Translated, Answers}
+use Rattle.keytable.specs.Deciding.{KeyAnswer, KeyDecides}
 use Rattle.kernel.specs.Answers.{of_decided, of_checked, of_translated, of_key_answer}
 
 -- The decision has an answer of the list; any other is alike: equal but for which derivation of the greatest depth is handed out. No refusal touches the

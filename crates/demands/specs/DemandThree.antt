@@ -1,6 +1,6 @@
 -- DEMAND 3. Replacing names by keys beforehand changes no decision: the translated table has only keys, and every accepted request whose subject has a meaning
 -- gets the same grant, depth or denial from it, by rules that know no names. Records naming someone without a meaning give access to nobody, also not to each other.
-use Rattle.std.specs.Prelude.{Ok, ◌≡◌, List, ◌↔◌, ℕ, ◌≤◌, length, take}
+use Rattle.std.specs.Prelude.{◌≡◌, List, ◌↔◌, ℕ, ◌≤◌, length, take, Ok, Err}
 use Rattle.std.proofs.Math.Option.{some}
 use Rattle.rules.specs.Tables.{Request, AccessRecord, Delegation}
 use Rattle.rules.specs.Names.{TargetMeans, IsSelf}
@@ -15,11 +15,9 @@ use Rattle.table.specs.ReadKeyTable.{KeyLaid, read_key_table, most_key_table}
 use Rattle.decision.specs.Promise.{Decides}
 use Rattle.decision.specs.Promise.{Decided}
 use Rattle.decision.specs.declared.Refusal.TheVariants as undecided
-use Rattle.std.specs.Prelude.{Ok, Err}
-use Rattle.keytable.specs.Deciding.{KeyDecides}
-use Rattle.keytable.specs.declared.KeyAnswer.{KeyAnswer}
-use Rattle.keytable.specs.declared.KeyAnswer.TheVariants as by_keys
 use Rattle.translation.specs.Promise.{Translated, Answers}
+use Rattle.keytable.specs.Deciding.{KeyAnswer, KeyDecides}
+use Rattle.keytable.specs.declared.KeyRefusal.TheVariants as by_keys
 use Rattle.demands.specs.DemandTwo.{Accepted, Room}
 
 -- The translation succeeds, and its bytes load as a key table, which has nothing but keys in it.
@@ -37,8 +35,8 @@ pub record AsksTheSame (table request key_request : List ℕ) (x : Accepted tabl
 
 -- The same grant at the same depth, or the same denial.
 pub record SameAnswer (a : Decided) (b : KeyAnswer) : Type 0 where
-  pub granted : (d : Depth) → ((n : ℕ) × (a ≡ Ok (record { depth = d; length = n }))) ↔ (b ≡ by_keys.Granted d)
-  pub denied : (a ≡ Err undecided.Denied) ↔ (b ≡ by_keys.Denied)
+  pub granted : (d : Depth) → ((n : ℕ) × (a ≡ Ok (record { depth = d; length = n }))) ↔ (b ≡ Ok d)
+  pub denied : (a ≡ Err undecided.Denied) ↔ (b ≡ Err by_keys.Denied)
 
 -- The second table is the first without some of its records that name someone without a meaning.
 pub record TakenOut (l m : LaidTable) : Type 0 where

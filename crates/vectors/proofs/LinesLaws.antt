@@ -5,6 +5,7 @@ use mathlib.Core.Option.{Option, none, some}
 use Prim.Native.Nat.{ℕ, suc, ◌+◌, ◌≤◌}
 use native.Mathlib.Omega.{arith}
 use lib.ListN.{length}
+use Rattle.std.specs.Prelude.{Ok, Err}
 use Rattle.rules.specs.KeyTables.{KeyRequest}
 use Rattle.rules.specs.Tables.{Request}
 use Rattle.wire.specs.Number.{Bytes}
@@ -32,8 +33,6 @@ use Rattle.table.specs.declared.Loaded.TheVariants as loaded
 use Rattle.matching.proofs.HeldLaws.{read_good, read_bad}
 use Rattle.keytable.specs.Loading.{key_loaded_of, key_sections_of}
 use Rattle.keytable.specs.declared.KeySections.{KeySections}
-use Rattle.keytable.specs.declared.KeyLoaded.{KeyLoaded}
-use Rattle.keytable.specs.declared.KeyLoaded.TheVariants as key_loaded
 use Rattle.kernel.specs.Answers.{done, wrong_request, not_a_derivation}
 use Rattle.vectors.specs.Lines.{fault_line, table_line, key_table_line, whole_line, request_line, key_request_line, derivation_line}
 use Rattle.vectors.specs.declared.lines.Line.{Line}
@@ -55,15 +54,15 @@ table_bad p r f line e h q = q ∙ ap table_line (sym (read_bad p r f e h))
 abbrev pub key_counts_line : KeySections → Line
 key_counts_line s = Three done s.accesses.count s.delegations.count
 
-pub key_table_good : (p : Parsed KeyLaid) (r : KeyLoaded) (s : KeySections) → r ≡ key_loaded_of p → r ≡ key_loaded.Good s → key_counts_line s ≡ key_table_line p
+pub key_table_good : (p : Parsed KeyLaid) (s : KeySections) → Ok s ≡ key_loaded_of p → key_counts_line s ≡ key_table_line p
 unfolding key_table_line
-key_table_good (got l at) r s e h = let x : key_sections_of l ≡ s = cc in ap key_counts_line (sym x)
-key_table_good (bad g) r s e h = let z : ◌≡◌ {A = ℕ} 0 1 = cc in absurd (omega arith)
+key_table_good (got l at) s e = let x : key_sections_of l ≡ s = cc in ap key_counts_line (sym x)
+key_table_good (bad g) s e = let z : ◌≡◌ {A = ℕ} 0 1 = cc in absurd (omega arith)
 
-pub key_table_bad : (p : Parsed KeyLaid) (r : KeyLoaded) (f : Fault) (line : Line) → r ≡ key_loaded_of p → r ≡ key_loaded.Bad f → line ≡ fault_line f → line ≡ key_table_line p
+pub key_table_bad : (p : Parsed KeyLaid) (f : Fault) (line : Line) → Err f ≡ key_loaded_of p → line ≡ fault_line f → line ≡ key_table_line p
 unfolding key_table_line
-key_table_bad (got l at) r f line e h q = let z : ◌≡◌ {A = ℕ} 0 1 = cc in absurd (omega arith)
-key_table_bad (bad g) r f line e h q = let x : f ≡ g = cc in q ∙ ap fault_line x
+key_table_bad (got l at) f line e q = let z : ◌≡◌ {A = ℕ} 0 1 = cc in absurd (omega arith)
+key_table_bad (bad g) f line e q = let x : f ≡ g = cc in q ∙ ap fault_line x
 
 -- ---- requests
 pub request_good : (p : Parsed table.Laid) (r : Loaded) (s : Sections) (b : List ℕ) → r ≡ loaded_of p → r ≡ loaded.Good s → whole_line wrong_request (read_request s.spaces.count b) ≡ request_line p b

@@ -2,8 +2,8 @@
 use Rattle.vectors.proofs.LinesLaws.{key_table_good, key_table_bad}
 use Rattle.vectors.proofs.key_tables.line_of.Goals as goal
 
-pub returns-in-Good : goal.returns-in-Good
-returns-in-Good c = key_table_good _ _ _ c.load_key_table.ensures c.in-Good.is
+pub returns-in-Ok : goal.returns-in-Ok
+returns-in-Ok c = key_table_good _ _ c.in-Ok.ensures
 
-pub returns-in-Bad : goal.returns-in-Bad
-returns-in-Bad c = key_table_bad _ _ _ _ c.load_key_table.ensures c.in-Bad.is c.fault_line.ensures
+pub returns-in-Err : goal.returns-in-Err
+returns-in-Err c = key_table_bad _ _ _ c.in-Err.ensures c.fault_line.ensures
