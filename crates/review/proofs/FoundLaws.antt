@@ -1,46 +1,54 @@
--- A record that is read where it stands in a good table fits the table.
+-- What is known of an open table, and of what is read of it: a record that is read where it stands fits the table, and so does a request.
 use mathlib.Core.Path.{◌≡◌, refl, subst}
 use mathlib.Core.List.{List}
-use Prim.Native.Nat.{ℕ, ◌<◌}
+use mathlib.Core.Logic.{∥∥₁_elim}
+use Prim.Native.Nat.{ℕ, ◌<◌, ◌≤◌}
+use native.Mathlib.Bridge.{le_prop}
 use lib.ListN.{length, get_or}
+use Rattle.rules.specs.Ranges.{most_spaces}
+use Rattle.rules.specs.declared.Space.{Space}
 use Rattle.records.specs.Accesses.{access_record, access_read}
 use Rattle.records.specs.Delegations.{delegation_record, delegation_read}
+use Rattle.records.specs.Requests.{read_request, request_read}
 use Rattle.records.specs.declared.accesses.Access.{Access}
-use Rattle.records.specs.declared.accesses.AccessRead.{AccessRead}
 use Rattle.records.specs.declared.accesses.AccessRead.TheVariants as access
 use Rattle.records.specs.declared.delegations.Delegation.{Delegation}
-use Rattle.records.specs.declared.delegations.DelegationRead.{DelegationRead}
 use Rattle.records.specs.declared.delegations.DelegationRead.TheVariants as delegation
-use Rattle.table.proofs.LoadingLaws.{rest}
-use Rattle.rules.specs.declared.Space.{Space}
 use Rattle.records.specs.declared.paths.Path.{Path}
+use Rattle.records.specs.declared.requests.Request.{Request}
+use Rattle.records.specs.declared.requests.RequestRead.TheVariants as request
 use Rattle.records.specs.declared.targets.Target.{Target}
 use Rattle.records.specs.declared.targets.Target.TheVariants as target
+use Rattle.wire.specs.Number.{Bytes}
+use Rattle.table.proofs.LoadingLaws.{rest}
 use Rattle.sheet.specs.Finds.{Fitting, FittingTarget}
-use Rattle.matching.specs.Matching.{Held}
-use Rattle.matching.proofs.MatchingLaws.{access_fits, accesses_below, owner_fits, delegatee_fits, delegations_below}
-use Rattle.review.specs.Found.{AccessFits, DelegationFits}
+use Rattle.matching.proofs.MatchingLaws.{few_spaces_lem, access_fits, accesses_below, owner_fits, delegatee_fits, delegations_below}
+use Rattle.decision.proofs.AnswersLaws.{wish_fits}
+use Rattle.review.specs.declared.opened.OpenTable.{OpenTable}
 
-module _ (s keys names accesses delegations : List ℕ) (held : Held s keys names accesses delegations) (i : ℕ) where
-  pub access_found : i < length accesses → (r : AccessRead) → r ≡ access_read (access_record (length keys) (rest s (get_or accesses i 0)) 0) → AccessFits (length keys) r
-  access_found h (access.Access v n) e = access_fits s keys names accesses delegations held i (accesses_below s keys names accesses delegations held i h) (access.Access v n) e v n refl
-  access_found h (access.Fault f) e = tt
+module _ (o : OpenTable) where
+  pub few_spaces : length o.keys.now ≤ most_spaces
+  few_spaces = ∥∥₁_elim o.good le_prop (λ w. few_spaces_lem _ _ _ _ _ w.held)
 
-  pub delegation_found : i < length delegations → (r : DelegationRead) → r ≡ delegation_read (delegation_record (length keys) (rest s (get_or delegations i 0)) 0) → DelegationFits (length keys) r
-  delegation_found h (delegation.Delegation v n) e =
-      let low = delegations_below s keys names accesses delegations held i h in
-      let o = owner_fits s keys names accesses delegations held i low (delegation.Delegation v n) e v n refl in
-      let d = delegatee_fits s keys names accesses delegations held i low (delegation.Delegation v n) e v n refl in
-      (o.0, o.1, d.1)
-  delegation_found h (delegation.Fault f) e = tt
+  pub sheet_room : length o.names.now ≤ length o.sheet.now
+  sheet_room = ∥∥₁_elim o.good le_prop (λ w. w.room)
 
--- ---- what is known of a record that was found
-pub access_known : {spaces : ℕ} {r : AccessRead} {v : Access} {n : ℕ} → AccessFits spaces r → r ≡ access.Access v n → (v.owner.0 < spaces) × Fitting v.path
-access_known {spaces} h e = subst (λ (r : AccessRead). AccessFits spaces r) e h
+  pub access_found : (i : ℕ) → i < length o.accesses.now → (v : Access) (n : ℕ) → access.Access v n ≡ access_read (access_record (length o.keys.now) (rest o.table.now (get_or o.accesses.now i 0)) 0)
+      → (v.owner.0 < length o.keys.now) × Fitting v.path
+  access_found i h v n e =
+      ∥∥₁_elim o.good (hlevel le_prop) (λ w. access_fits _ _ _ _ _ w.held i (accesses_below _ _ _ _ _ w.held i h) _ e v n refl)
 
-pub delegation_known : {spaces : ℕ} {r : DelegationRead} {v : Delegation} {n : ℕ} → DelegationFits spaces r → r ≡ delegation.Delegation v n
-    → (v.writer.0 < spaces) × Fitting v.owner × Fitting v.delegatee
-delegation_known {spaces} h e = subst (λ (r : DelegationRead). DelegationFits spaces r) e h
+  pub delegation_found : (j : ℕ) → j < length o.delegations.now → (v : Delegation) (n : ℕ) → delegation.Delegation v n ≡ delegation_read (delegation_record (length o.keys.now) (rest o.table.now (get_or o.delegations.now j 0)) 0)
+      → (v.writer.0 < length o.keys.now) × Fitting v.owner × Fitting v.delegatee
+  delegation_found j h v n e = ∥∥₁_elim o.good (hlevel le_prop) (λ w.
+      let low = delegations_below _ _ _ _ _ w.held j h in
+      let a = owner_fits _ _ _ _ _ w.held j low _ e v n refl in
+      (a.0, a.1, (delegatee_fits _ _ _ _ _ w.held j low _ e v n refl).1))
 
-pub name_known : {spaces : ℕ} {g : Target} {S : Space} {p : Path} → FittingTarget spaces g → g ≡ target.Name S p → (S.0 < spaces) × Fitting p
-name_known {spaces} h e = subst (λ (g : Target). FittingTarget spaces g) e h
+  module _ (s : List ℕ) (bytes : Bytes s) (v : Request) (e : request.Request v ≡ request_read (read_request (length o.keys.now) s)) where
+    pub owner_there : v.owner.0 < length o.keys.now
+    owner_there = ∥∥₁_elim o.good le_prop (λ w. (wish_fits _ _ _ _ _ w.held _ s e s s bytes v refl).1)
+
+    pub name_fits : (S : Space) (p : Path) → v.subject ≡ target.Name S p → (S.0 < length o.keys.now) × Fitting p
+    name_fits S p is = ∥∥₁_elim o.good (hlevel le_prop) (λ w.
+        subst (λ (g : Target). FittingTarget (length o.keys.now) g) is (wish_fits _ _ _ _ _ w.held _ s e s s bytes v refl).0)

@@ -1,6 +1,5 @@
 -- What the reviewer's tool says.
 pub mod Files
-pub mod Found
 pub mod Opened
 pub mod Steps
 pub mod Words

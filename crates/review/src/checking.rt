@@ -2,7 +2,8 @@
 use crate::answers::{say_answer, say_refusal};
 use crate::asking::ask;
 use crate::files::{Part, read_file};
-use crate::opening::{Task, open};
+use crate::explaining::explain;
+use crate::opening::open;
 use crate::printing::{say, say_with};
 use crate::writing::Form;
 use kernel::answers::DONE;
@@ -20,7 +21,9 @@ fn answer(rt: &impl Print, table: &[u8], request: &[u8], derivation: &[u8]) {
     say_answer(rt, DONE);
     say_with(rt, b"0 Accepted, depth ", told.depth);
     say(rt, b".\n");
-    open(rt, table, request, derivation, Task::Explain);
+    open(rt, table, |opened| {
+        explain(rt, opened, request, derivation)
+    });
 }
 
 // Reads the table, the derivation and the request, and answers.

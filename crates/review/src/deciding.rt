@@ -1,7 +1,8 @@
 // review decide TABLE SAVE REQUEST: decides, explains a grant, and saves its derivation.
 use crate::answers::{say_answer, say_refusal};
+use crate::explaining::explain;
 use crate::files::write_file;
-use crate::opening::{Task, open};
+use crate::opening::open;
 use crate::printing::{say, say_bytes, say_count, say_with};
 use crate::words::is_word;
 use kernel::answers::{DONE, UNNAMED};
@@ -34,7 +35,9 @@ fn grant(
     say(rt, b" bytes:");
     say_bytes(rt, derivation);
     say(rt, b"\n");
-    open(rt, table, request, derivation, Task::Explain);
+    open(rt, table, |opened| {
+        explain(rt, opened, request, derivation)
+    });
 }
 
 // Answers a request by a table. From Unnamed on it was read, and what the subject's name goes through is told.
@@ -49,6 +52,6 @@ pub fn answer(rt: &(impl Env + Files + Print), table: &[u8], request: &[u8]) {
     }
     say_refusal(rt, told);
     if UNNAMED <= told.number {
-        open(rt, table, request, b"", Task::Explain);
+        open(rt, table, |opened| explain(rt, opened, request, b""));
     }
 }

@@ -1,8 +1,7 @@
 // A request and its derivation: who asks for what, the bindings that the derivation lists, and its chain.
-ghost use Rattle.review.specs.Opened.{Opened};
-
 use crate::chains::explain_chain;
 use crate::names::{say_space, say_target, say_way};
+use crate::opened::OpenTable;
 use crate::printing::{say, say_with};
 use crate::recounting::recount_binding;
 use records::derivations::{DerivationRead, read_derivation};
@@ -13,125 +12,49 @@ use records::targets::Target;
 // The bindings whose numbers stand from the place `from` on, so many of them.
 fn explain_bindings(
     rt: &impl Print,
-    table: &[u8],
-    keys: &[u32],
-    names: &[u32],
-    bindings: &[u16],
-    accesses: &[u16],
-    delegations: &[u16],
-    sheet: &[u32],
+    opened: &OpenTable,
     derivation: &[u8],
     from: usize,
     count: usize,
-)
-    requires { Opened table.now keys.now names.now bindings.now accesses.now delegations.now sheet.now }
-{
+) {
     let mut at = from;
-    let mut k = 0;
-    while k < count {
-        let number = read_field(derivation, at, 0, 255);
-        let Field::Value(value, next) = number else {
+    for _ in 0..count {
+        let Field::Value(value, next) = read_field(derivation, at, 0, 255) else {
             return;
         };
         let i = value as usize;
-        if i < names.len() {
-            recount_binding(rt, table, keys, names, bindings, sheet, i);
+        if i < opened.names.len() {
+            recount_binding(rt, opened, i);
         }
         at = next;
-        k = k + 1;
     }
 }
 
 // Who asks for what, and which key that is.
-fn explain_request(
-    rt: &impl Print,
-    table: &[u8],
-    keys: &[u32],
-    names: &[u32],
-    bindings: &[u16],
-    accesses: &[u16],
-    delegations: &[u16],
-    sheet: &[u32],
-    request: &[u8],
-)
-    requires { Opened table.now keys.now names.now bindings.now accesses.now delegations.now sheet.now }
-{
-    let read = read_request(request, keys.len());
-    let RequestRead::Request(asked) = read else {
+fn explain_request(rt: &impl Print, opened: &OpenTable, request: &[u8]) {
+    let RequestRead::Request(asked) = read_request(request, opened.keys.len()) else {
         return;
     };
-    let subject = asked.subject;
-    let owner = asked.owner;
-    let wanted = asked.wanted;
     say(rt, b"Asked: ");
-    say_target(rt, subject);
-    say_with(rt, b", right ", wanted.right);
-    say_with(rt, b" on object ", wanted.object);
+    say_target(rt, asked.subject);
+    say_with(rt, b", right ", asked.wanted.right);
+    say_with(rt, b" on object ", asked.wanted.object);
     say(rt, b" of ");
-    say_space(rt, keys, owner);
+    say_space(rt, opened, asked.owner);
     say(rt, b"\n");
-    let Target::Name(space, path) = subject else {
-        return;
-    };
-    say_way(rt, keys, names, sheet, space, path);
+    if let Target::Name(space, path) = asked.subject {
+        say_way(rt, opened, space, path);
+    }
 }
 
 // The request, and the whole derivation.
-pub fn explain(
-    rt: &impl Print,
-    table: &[u8],
-    keys: &[u32],
-    names: &[u32],
-    bindings: &[u16],
-    accesses: &[u16],
-    delegations: &[u16],
-    sheet: &[u32],
-    request: &[u8],
-    derivation: &[u8],
-)
-    requires { Opened table.now keys.now names.now bindings.now accesses.now delegations.now sheet.now }
-{
-    explain_request(
-        rt,
-        table,
-        keys,
-        names,
-        bindings,
-        accesses,
-        delegations,
-        sheet,
-        request,
-    );
-    let read = read_derivation(derivation);
-    let DerivationRead::Derivation(parts) = read else {
+pub fn explain(rt: &impl Print, opened: &OpenTable, request: &[u8], derivation: &[u8]) {
+    explain_request(rt, opened, request);
+    let DerivationRead::Derivation(parts) = read_derivation(derivation) else {
         return;
     };
     say(rt, b"\nThe bindings that its names go through:\n");
-    explain_bindings(
-        rt,
-        table,
-        keys,
-        names,
-        bindings,
-        accesses,
-        delegations,
-        sheet,
-        derivation,
-        parts.first,
-        parts.bindings,
-    );
+    explain_bindings(rt, opened, derivation, parts.first, parts.bindings);
     say(rt, b"\nIts chain:\n");
-    explain_chain(
-        rt,
-        table,
-        keys,
-        names,
-        bindings,
-        accesses,
-        delegations,
-        sheet,
-        derivation,
-        parts.chain,
-        parts.delegations,
-    );
+    explain_chain(rt, opened, derivation, parts.chain, parts.delegations);
 }

@@ -1,56 +1,43 @@
 // A record by its number, read where it stands in a good table.
-ghost use Rattle.std.specs.Prelude.{◌<◌, length};
-ghost use Rattle.table.specs.ReadTable.{table_at};
-ghost use Rattle.sheet.specs.Listings.{Known};
-ghost use Rattle.matching.specs.Matching.{Held};
-ghost use Rattle.review.specs.Found.{AccessFits, DelegationFits};
+ghost use Rattle.std.specs.Prelude.{◌<◌, length, IfSome};
+ghost use Rattle.sheet.specs.Finds.{Fitting};
 
-use records::accesses::{AccessRead, read_access};
-use records::bindings::{BindingRead, read_binding};
-use records::delegations::{DelegationRead, read_delegation};
+use crate::opened::OpenTable;
+use records::accesses::{Access, AccessRead, read_access};
+use records::bindings::{Binding, BindingRead, read_binding};
+use records::delegations::{Delegation, DelegationRead, read_delegation};
 
 // Binding number `i`.
-pub fn binding_at(
-    table: &[u8],
-    keys: &[u32],
-    names: &[u32],
-    bindings: &[u16],
-    i: usize,
-) -> BindingRead
-    requires { Known (table_at table.now).names table.now keys.now names.now bindings.now × (i < length names.now) }
+pub fn binding_at(opened: &OpenTable, i: usize) -> Option<Binding>
+    requires { i < length opened.now.names.now }
 {
-    let place = bindings[i] as usize;
-    read_binding(&table[place..], keys.len(), &names[..0])
+    let place = opened.bindings[i] as usize;
+    match read_binding(&opened.table[place..], opened.keys.len(), &opened.names[..0]) {
+        BindingRead::Binding(binding, _) => Some(binding),
+        _ => None,
+    }
 }
 
 // Access record number `i`; its space and its path fit the table.
-pub fn access_at(
-    table: &[u8],
-    keys: &[u32],
-    names: &[u32],
-    accesses: &[u16],
-    delegations: &[u16],
-    i: usize,
-) -> AccessRead
-    requires { Held table.now keys.now names.now accesses.now delegations.now × (i < length accesses.now) }
-    ensures { AccessFits (length keys.now) result }
+pub fn access_at(opened: &OpenTable, i: usize) -> Option<Access>
+    requires { i < length opened.now.accesses.now }
+    ensures { IfSome result (λ v. (v.owner.0 < length opened.now.keys.now) × Fitting v.path) }
 {
-    let place = accesses[i] as usize;
-    read_access(&table[place..], keys.len())
+    let place = opened.accesses[i] as usize;
+    match read_access(&opened.table[place..], opened.keys.len()) {
+        AccessRead::Access(access, _) => Some(access),
+        AccessRead::Fault(_) => None,
+    }
 }
 
 // Delegation number `j`; its space and its paths fit the table.
-pub fn delegation_at(
-    table: &[u8],
-    keys: &[u32],
-    names: &[u32],
-    accesses: &[u16],
-    delegations: &[u16],
-    j: usize,
-) -> DelegationRead
-    requires { Held table.now keys.now names.now accesses.now delegations.now × (j < length delegations.now) }
-    ensures { DelegationFits (length keys.now) result }
+pub fn delegation_at(opened: &OpenTable, j: usize) -> Option<Delegation>
+    requires { j < length opened.now.delegations.now }
+    ensures { IfSome result (λ v. (v.writer.0 < length opened.now.keys.now) × Fitting v.owner × Fitting v.delegatee) }
 {
-    let place = delegations[j] as usize;
-    read_delegation(&table[place..], keys.len())
+    let place = opened.delegations[j] as usize;
+    match read_delegation(&opened.table[place..], opened.keys.len()) {
+        DelegationRead::Delegation(delegation, _) => Some(delegation),
+        DelegationRead::Fault(_) => None,
+    }
 }

@@ -5,7 +5,7 @@
 use crate::answers::{WRONG_USE, say_answer};
 use crate::asking::ask;
 use crate::files::{Part, read_file};
-use crate::opening::{Task, open};
+use crate::opening::open;
 use crate::printing::say;
 use crate::words::is_word;
 use crate::writing::Form;
@@ -23,6 +23,7 @@ mod files;
 mod finding;
 mod key_deciding;
 mod names;
+mod opened;
 mod opening;
 mod printing;
 mod recounting;
@@ -37,7 +38,7 @@ fn show(rt: &(impl Env + Files + Print)) {
     let Part::Whole(table) = read_file(rt, 2, &mut first) else {
         return;
     };
-    open(rt, &first[..table], b"", b"", Task::Show);
+    open(rt, &first[..table], |opened| showing::show(rt, opened));
 }
 
 // Answers a request by a table, or a key request by a key table.

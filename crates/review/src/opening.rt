@@ -4,33 +4,24 @@ ghost use Rattle.sheet.specs.Listings.{Known};
 ghost use Rattle.matching.specs.Matching.{Held};
 
 use crate::answers::say_refusal;
-use crate::explaining::explain;
-use crate::showing::show;
+use crate::opened::OpenTable;
 use kernel::answers::of_fault;
 use sheet::filling::fill;
 use table::{Loaded, load_index};
 
-// What is to be told: a derivation for a request, or all records.
-#[derive(Clone, Copy)]
-pub enum Task {
-    Explain,
-    Show,
-}
-
 // Fills the sheet of a table that was found good, and tells of it.
-fn open_good(
-    rt: &impl Print,
+fn open_good<F: FnOnce(&OpenTable)>(
     table: &[u8],
     keys: &[u32],
     names: &[u32],
     bindings: &[u16],
     accesses: &[u16],
     delegations: &[u16],
-    request: &[u8],
-    derivation: &[u8],
-    task: Task,
+    tell: F,
 )
-    requires { Known (table_at table.now).names table.now keys.now names.now bindings.now × Held table.now keys.now names.now accesses.now delegations.now }
+    requires known { Known (table_at table.now).names table.now keys.now names.now bindings.now }
+    requires held { Held table.now keys.now names.now accesses.now delegations.now }
+    requires callable { F.IsAlwaysCallable tell }
 {
     let mut sheet = [0; 256];
     let mut order = [0; 256];
@@ -38,34 +29,21 @@ fn open_good(
     fill(
         table, keys, names, bindings, &mut sheet, &mut order, &mut waits,
     );
-    match task {
-        Task::Explain => explain(
-            rt,
-            table,
-            keys,
-            names,
-            bindings,
-            accesses,
-            delegations,
-            &sheet,
-            request,
-            derivation,
-        ),
-        Task::Show => show(
-            rt,
-            table,
-            keys,
-            names,
-            bindings,
-            accesses,
-            delegations,
-            &sheet,
-        ),
-    }
+    tell(&OpenTable {
+        table,
+        keys,
+        names,
+        bindings,
+        accesses,
+        delegations,
+        sheet: &sheet,
+    });
 }
 
 // Opens the table, and tells of it, or says its fault.
-pub fn open(rt: &impl Print, table: &[u8], request: &[u8], derivation: &[u8], task: Task) {
+pub fn open<F: FnOnce(&OpenTable)>(rt: &impl Print, table: &[u8], tell: F)
+    requires { F.IsAlwaysCallable tell }
+{
     let mut keys = [0; 64];
     let mut names = [0; 256];
     let mut bindings = [0; 256];
@@ -80,25 +58,14 @@ pub fn open(rt: &impl Print, table: &[u8], request: &[u8], derivation: &[u8], ta
         &mut delegations,
     ) {
         Loaded::Good(sections) => {
-            let spaces = sections.spaces;
-            let bound = sections.bindings;
-            let listed = sections.accesses;
-            let written = sections.delegations;
-            let a = spaces.count;
-            let b = bound.count;
-            let c = listed.count;
-            let d = written.count;
             open_good(
-                rt,
                 table,
-                &keys[..a],
-                &names[..b],
+                &keys[..sections.spaces.count],
+                &names[..sections.bindings.count],
                 &bindings,
-                &accesses[..c],
-                &delegations[..d],
-                request,
-                derivation,
-                task,
+                &accesses[..sections.accesses.count],
+                &delegations[..sections.delegations.count],
+                tell,
             );
         }
         Loaded::Bad(fault) => say_refusal(rt, of_fault(fault)),

@@ -2,5 +2,5 @@
 use Rattle.review.proofs.FoundLaws.{access_found}
 use Rattle.review.proofs.finding.access_at.Goals as goal
 
-pub returns : goal.returns
-returns c = access_found _ _ _ _ _ c.requires.0 _ c.requires.1 _ c.read_access.ensures
+pub returns-in-Access : goal.returns-in-Access
+returns-in-Access c = access_found c.args.opened.now _ c.requires _ _ c.in-Access.ensures

@@ -2,5 +2,5 @@
 use Rattle.review.proofs.FoundLaws.{delegation_found}
 use Rattle.review.proofs.finding.delegation_at.Goals as goal
 
-pub returns : goal.returns
-returns c = delegation_found _ _ _ _ _ c.requires.0 _ c.requires.1 _ c.read_delegation.ensures
+pub returns-in-Delegation : goal.returns-in-Delegation
+returns-in-Delegation c = delegation_found c.args.opened.now _ c.requires _ _ c.in-Delegation.ensures

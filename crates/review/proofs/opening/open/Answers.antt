@@ -31,8 +31,11 @@ slice_bounds-delegations-end g c = omega (arith, few_delegations_read _ (record 
 pub slice_bounds-open_good-end-in-Good-4 : goal.slice_bounds-open_good-end-in-Good-4
 slice_bounds-open_good-end-in-Good-4 g c = sym (length-take-le c.in-Good.sections.delegations.count c.load_index.new.delegations (omega (arith, few_delegations_read _ (record { small = λ i. (c.type_inv.table i).fits }) _ (read_table_lem _ _ _ c.load_index.ensures.read c.in-Good.is), c.delegations-2-1.given)))
 
-pub open_good-requires : goal.open_good-requires
-open_good-requires g c = (known_read _ (record { small = λ i. (c.type_inv.table i).fits }) _ (read_table_lem _ _ _ c.load_index.ensures.read c.in-Good.is) c.load_index.new.keys c.load_index.new.names c.load_index.new.bindings c.load_index.new.accesses c.load_index.new.delegations c.load_index.ensures.kept (omega (arith, c.bindings-2-1.given)), held_read _ (record { small = λ i. (c.type_inv.table i).fits }) _ (read_table_lem _ _ _ c.load_index.ensures.read c.in-Good.is) c.load_index.new.keys c.load_index.new.names c.load_index.new.bindings c.load_index.new.accesses c.load_index.new.delegations c.load_index.ensures.kept (omega (arith, c.bindings-2-1.given)) (omega (arith, c.accesses-2-1.given)) (omega (arith, c.delegations-2-1.given)))
+pub open_good-requires-clause-known : goal.open_good-requires-clause-known
+open_good-requires-clause-known g c = known_read _ (record { small = λ i. (c.type_inv.table i).fits }) _ (read_table_lem _ _ _ c.load_index.ensures.read c.in-Good.is) c.load_index.new.keys c.load_index.new.names c.load_index.new.bindings c.load_index.new.accesses c.load_index.new.delegations c.load_index.ensures.kept (omega (arith, c.bindings-2-1.given))
+
+pub open_good-requires-clause-held : goal.open_good-requires-clause-held
+open_good-requires-clause-held g c = held_read _ (record { small = λ i. (c.type_inv.table i).fits }) _ (read_table_lem _ _ _ c.load_index.ensures.read c.in-Good.is) c.load_index.new.keys c.load_index.new.names c.load_index.new.bindings c.load_index.new.accesses c.load_index.new.delegations c.load_index.ensures.kept (omega (arith, c.bindings-2-1.given)) (omega (arith, c.accesses-2-1.given)) (omega (arith, c.delegations-2-1.given))
 
 pub of_fault-requires : goal.of_fault-requires
 of_fault-requires g c = fault_fits c.in-Bad.fault (table_fault _ _ (read_bad _ _ _ c.load_index.ensures.read c.in-Bad.is))
