@@ -1,11 +1,11 @@
 // review check TABLE DERIVATION REQUEST: checks the derivation, and explains one that holds.
 use crate::answers::{say_answer, say_refusal};
 use crate::asking::ask;
-use crate::files::{Part, read_file};
 use crate::explaining::explain;
+use crate::files::read_file;
 use crate::opening::open;
 use crate::printing::{say, say_with};
-use crate::writing::Form;
+use crate::troubles::Trouble;
 use kernel::answers::DONE;
 use kernel::rustamgheb_check;
 use std::rt::{Env, Files};
@@ -27,23 +27,18 @@ fn answer(rt: &impl Print, table: &[u8], request: &[u8], derivation: &[u8]) {
 }
 
 // Reads the table, the derivation and the request, and answers.
-pub fn run(rt: &(impl Env + Files + Print)) {
+pub fn run(rt: &(impl Env + Files + Print)) -> Result<(), Trouble> {
     let mut first = large_buffer();
-    let Part::Whole(table) = read_file(rt, 2, &mut first) else {
-        return;
-    };
+    let table = read_file(rt, 2, &mut first)?;
     let mut second = large_buffer();
-    let Part::Whole(derivation) = read_file(rt, 3, &mut second) else {
-        return;
-    };
+    let derivation = read_file(rt, 3, &mut second)?;
     let mut third = large_buffer();
-    let Part::Whole(request) = ask(rt, &mut third, 4, Form::Names) else {
-        return;
-    };
+    let request = ask(rt, &mut third, 4)?;
     answer(
         rt,
         &first[..table],
         &third[..request],
         &second[..derivation],
     );
+    Ok(())
 }

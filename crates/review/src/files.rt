@@ -1,22 +1,14 @@
 // Files that words name.
-ghost use Rattle.std.specs.Prelude.{◌≡◌, length};
+ghost use Rattle.std.specs.Prelude.{◌≡◌, IfOk, length};
 ghost use Rattle.streams.specs.Counts.{IsPrefixLen};
-ghost use Rattle.review.specs.Files.{Fits};
 
-use crate::answers::{NO_INPUT, NO_OUTPUT, say_answer};
 use crate::printing::say;
+use crate::troubles::Trouble;
 use std::fs;
 use std::fs::OpenFile;
 use std::io::{ErrorKind, Write};
 use std::rt::{Env, Files};
 use streams::read_full;
-
-// What was read stands at the start of a buffer: its first bytes, or nothing.
-#[derive(Clone, Copy)]
-pub enum Part {
-    Whole(usize),
-    Broken,
-}
 
 // 4,096 zeros, which hold any path.
 fn path_buffer() -> [u8; 4096]
@@ -29,25 +21,14 @@ fn path_buffer() -> [u8; 4096]
 fn word(rt: &impl Env, i: usize, buffer: &mut [u8]) -> usize
     ensures { IsPrefixLen result buffer.new }
 {
-    match rt.arg(i, buffer) {
-        Ok(length) => length,
-        Err(_) => 0,
-    }
+    rt.arg(i, buffer).unwrap_or(0)
 }
 
 // Writes the word number `i`.
-fn say_word(rt: &(impl Env + Print), i: usize) {
+pub fn say_word(rt: &(impl Env + Print), i: usize) {
     let mut text = path_buffer();
     let length = word(rt, i, &mut text);
     say(rt, &text[..length]);
-}
-
-// Says that the file that word number `i` names could not be used.
-fn failed(rt: &(impl Env + Print), number: u32, why: &[u8], i: usize) {
-    say_answer(rt, number);
-    say(rt, why);
-    say_word(rt, i);
-    say(rt, b"\n");
 }
 
 // Whether the system has taken what was written, where a write alone may not tell. A pipe or a device that knows no such question has taken it.
@@ -61,39 +42,25 @@ fn settled(file: &impl OpenFile) -> bool {
     }
 }
 
-// Reads the file that word number `i` names, as much of it as the buffer holds.
-pub fn read_file(rt: &(impl Env + Files + Print), i: usize, buffer: &mut [u8]) -> Part
-    ensures { Fits result buffer.new }
+// Reads the file that word number `i` names, as much of it as the buffer holds, and answers how many bytes that is.
+pub fn read_file(rt: &(impl Env + Files), i: usize, buffer: &mut [u8]) -> Result<usize, Trouble>
+    ensures { IfOk result (λ n. IsPrefixLen n buffer.new) }
 {
     let mut path = path_buffer();
     let length = word(rt, i, &mut path);
-    let Ok(name) = str::from_utf8(&path[..length]) else {
-        failed(rt, NO_INPUT, b"cannot read ", i);
-        return Part::Broken;
-    };
-    let Ok(mut file) = fs::open(rt, name) else {
-        failed(rt, NO_INPUT, b"cannot read ", i);
-        return Part::Broken;
-    };
-    Part::Whole(read_full(&mut file, buffer))
+    let name = str::from_utf8(&path[..length]).map_err(|_| Trouble::Unread(i))?;
+    let mut file = fs::open(rt, name).map_err(|_| Trouble::Unread(i))?;
+    Ok(read_full(&mut file, buffer))
 }
 
-// Writes the bytes to the file that word number `i` names, and says whether all of them are there.
-pub fn write_file(rt: &(impl Env + Files + Print), i: usize, bytes: &[u8]) -> bool {
+// Writes the bytes to the file that word number `i` names, all of them.
+pub fn write_file(rt: &(impl Env + Files), i: usize, bytes: &[u8]) -> Result<(), Trouble> {
     let mut path = path_buffer();
     let length = word(rt, i, &mut path);
-    let Ok(name) = str::from_utf8(&path[..length]) else {
-        failed(rt, NO_OUTPUT, b"cannot write ", i);
-        return false;
-    };
-    let Ok(mut file) = fs::create(rt, name) else {
-        failed(rt, NO_OUTPUT, b"cannot write ", i);
-        return false;
-    };
-    let whole = file.write_all(bytes).is_ok();
-    if whole && settled(&file) {
-        return true;
+    let name = str::from_utf8(&path[..length]).map_err(|_| Trouble::Unwritten(i))?;
+    let mut file = fs::create(rt, name).map_err(|_| Trouble::Unwritten(i))?;
+    if file.write_all(bytes).is_ok() && settled(&file) {
+        return Ok(());
     }
-    failed(rt, NO_OUTPUT, b"cannot write all of ", i);
-    false
+    Err(Trouble::PartlyWritten(i))
 }

@@ -12,7 +12,11 @@ pub fn binding_at(opened: &OpenTable, i: usize) -> Option<Binding>
     requires { i < length opened.now.names.now }
 {
     let place = opened.bindings[i] as usize;
-    match read_binding(&opened.table[place..], opened.keys.len(), &opened.names[..0]) {
+    match read_binding(
+        &opened.table[place..],
+        opened.keys.len(),
+        &opened.names[..0],
+    ) {
         BindingRead::Binding(binding, _) => Some(binding),
         _ => None,
     }

@@ -21,18 +21,9 @@ pub fn say_with(rt: &impl Print, text: &[u8], number: u32) {
     say_number(rt, number);
 }
 
-// The byte, as a wider number.
-fn wide(byte: u8) -> u64 {
-    byte as u64
-}
-
 // Writes the bytes, each as two digits of base 16.
 pub fn say_bytes(rt: &impl Print, bytes: &[u8]) {
-    let mut i = 0;
-    while i < bytes.len() {
-        say(rt, b" ");
-        let byte = wide(bytes[i]);
-        let _ = print!(rt; "{byte:02x}");
-        i = i + 1;
+    for byte in bytes {
+        let _ = print!(rt; " {byte:02x}");
     }
 }

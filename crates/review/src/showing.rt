@@ -1,17 +1,22 @@
-// All records of a table in columns, with what their names mean.
+// review show TABLE: shows all records of a table in columns, with what their names mean.
 ghost use Rattle.std.specs.Prelude.{◌<◌, length};
 ghost use Rattle.sheet.specs.Finds.{Fitting};
 
 use crate::answers::say_answer;
 use crate::columns::{column, key_column, path_column};
+use crate::files::read_file;
 use crate::finding::{access_at, binding_at, delegation_at};
 use crate::names::{say_path, say_target};
 use crate::opened::OpenTable;
+use crate::opening::open;
 use crate::printing::say;
+use crate::troubles::Trouble;
 use kernel::answers::DONE;
 use records::paths::Path;
 use rules::Space;
 use sheet::following::{Followed, follow_name};
+use std::rt::{Env, Files};
+use streams::large_buffer;
 
 // The key that a name means, or 0.
 fn key_of(opened: &OpenTable, space: Space, path: Path) -> u32
@@ -123,10 +128,18 @@ fn show_delegations(rt: &impl Print, opened: &OpenTable) {
 }
 
 // The whole table.
-pub fn show(rt: &impl Print, opened: &OpenTable) {
+fn show(rt: &impl Print, opened: &OpenTable) {
     say_answer(rt, DONE);
     show_spaces(rt, opened);
     show_bindings(rt, opened);
     show_accesses(rt, opened);
     show_delegations(rt, opened);
+}
+
+// Reads the table, and shows it.
+pub fn run(rt: &(impl Env + Files + Print)) -> Result<(), Trouble> {
+    let mut first = large_buffer();
+    let table = read_file(rt, 2, &mut first)?;
+    open(rt, &first[..table], |opened| show(rt, opened));
+    Ok(())
 }

@@ -1,11 +1,6 @@
--- What is left to read says the same as the whole; the digits that are left get fewer.
-use Prim.Native.Nat.{◌-◌}
-use lib.ListN.{length}
+-- What is left to read says the same as the whole.
 use Rattle.review.proofs.WordsLaws.{Reading}
 use Rattle.review.proofs.words.read_digits.Given as goal
 
-abbrev pub invariant-loop-i : goal.invariant-loop-i
-invariant-loop-i l = Reading l.digits l.value l.i
-
-abbrev pub decreases-loop-i : goal.decreases-loop-i
-decreases-loop-i l = length l.digits - l.i
+abbrev pub invariant-loop-byte : goal.invariant-loop-byte
+invariant-loop-byte l = Reading l.digits l.value l.byte-index

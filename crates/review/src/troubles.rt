@@ -1,0 +1,48 @@
+// What keeps a command from being carried out, in words.
+use crate::answers::say_answer;
+use crate::files::say_word;
+use crate::printing::say;
+use std::rt::Env;
+
+// A file goes by the number of the word that names it.
+#[derive(Clone, Copy)]
+pub enum Trouble {
+    NoCommand,
+    NoRequest,
+    Unread(usize),
+    Unwritten(usize),
+    PartlyWritten(usize),
+}
+
+impl Trouble {
+    // The number that the program answers: of words that say nothing, of a file that cannot be read, of one that cannot be written.
+    fn number(self) -> u32 {
+        match self {
+            Trouble::NoCommand | Trouble::NoRequest => 64,
+            Trouble::Unread(_) => 66,
+            Trouble::Unwritten(_) | Trouble::PartlyWritten(_) => 73,
+        }
+    }
+}
+
+// Writes the text and the word number `i` on a line.
+fn say_file(rt: &(impl Env + Print), why: &[u8], i: usize) {
+    say(rt, why);
+    say_word(rt, i);
+    say(rt, b"\n");
+}
+
+// Writes what the trouble is.
+pub fn say_trouble(rt: &(impl Env + Print), trouble: Trouble) {
+    say_answer(rt, trouble.number());
+    match trouble {
+        Trouble::NoCommand => say(rt, b"no such command; './review help' has the words\n"),
+        Trouble::NoRequest => say(
+            rt,
+            b"these words say no request; './review help' has the words\n",
+        ),
+        Trouble::Unread(i) => say_file(rt, b"cannot read ", i),
+        Trouble::Unwritten(i) => say_file(rt, b"cannot write ", i),
+        Trouble::PartlyWritten(i) => say_file(rt, b"cannot write all of ", i),
+    }
+}
