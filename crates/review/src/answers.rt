@@ -1,5 +1,5 @@
 // The reviewer's list of answers in words: the number on the first line, then its name, its place if it has one, and what it means.
-use crate::printing::say_with;
+use crate::printing::say;
 use kernel::answers::{Answer, WRONG_REQUEST};
 
 // The name of an answer, and what it means in a sentence.
@@ -44,7 +44,7 @@ fn words_of(number: u32) -> (&'static str, &'static str) {
 
 // Writes the number of the answer on a line of its own.
 pub fn say_answer(rt: &impl Print, number: u32) {
-    let _ = println!(rt; "{number}");
+    say!(rt; "{number}\n");
 }
 
 // Writes a refusal, with the place of a table's fault.
@@ -52,9 +52,9 @@ pub fn say_refusal(rt: &impl Print, answer: Answer) {
     let number = answer.number;
     let (name, meaning) = words_of(number);
     say_answer(rt, number);
-    let _ = print!(rt; "{number} {name}");
+    say!(rt; "{number} {name}");
     if number < WRONG_REQUEST {
-        say_with(rt, b" at offset ", answer.offset);
+        say!(rt; " at offset {}", answer.offset);
     }
-    let _ = println!(rt; ": {meaning}");
+    say!(rt; ": {meaning}\n");
 }

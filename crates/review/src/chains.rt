@@ -2,15 +2,14 @@
 ghost use Rattle.review.specs.Steps.{Stepped};
 
 use crate::opened::OpenTable;
-use crate::printing::{say, say_with};
+use crate::printing::say;
 use crate::recounting::{recount_access, recount_delegation};
 use records::fields::{Field, read_field};
 use rules::Depth;
 
 // The depth that is reached.
 fn say_depth(rt: &impl Print, depth: Depth) {
-    say_with(rt, b"      depth after it: ", depth.number());
-    say(rt, b"\n");
+    say!(rt; "      depth after it: {}\n", depth.number());
 }
 
 // The depth after a step from `before` by a delegation, or nothing where no step is left.

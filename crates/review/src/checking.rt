@@ -4,7 +4,7 @@ use crate::asking::ask;
 use crate::explaining::explain;
 use crate::files::read_file;
 use crate::opening::open;
-use crate::printing::{say, say_with};
+use crate::printing::say;
 use crate::troubles::Trouble;
 use kernel::answers::DONE;
 use kernel::rustamgheb_check;
@@ -19,8 +19,7 @@ fn answer(rt: &impl Print, table: &[u8], request: &[u8], derivation: &[u8]) {
         return;
     }
     say_answer(rt, DONE);
-    say_with(rt, b"0 Accepted, depth ", told.depth);
-    say(rt, b".\n");
+    say!(rt; "0 Accepted, depth {}.\n", told.depth);
     open(rt, table, |opened| {
         explain(rt, opened, request, derivation)
     });

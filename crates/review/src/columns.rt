@@ -1,9 +1,10 @@
-// Numbers and paths in columns.
+// Keys and paths in columns.
 ghost use Rattle.std.specs.Prelude.{◌≤◌};
 
 use crate::names::say_path;
 use crate::printing::say;
 use records::paths::Path;
+use rules::Key;
 
 // The longest path: four base names of five digits, and three points.
 const PATH_WIDTH: usize = 23;
@@ -26,18 +27,12 @@ fn digits(number: u32) -> usize
     }
 }
 
-// Writes the number at the right end of a column.
-pub fn column(rt: &impl Print, width: usize, number: usize) {
-    let _ = print!(rt; "{number:width$}");
-}
-
-// Writes the key at the right end of a column; 0 is none.
-pub fn key_column(rt: &impl Print, width: usize, key: u32) {
-    if key == 0 {
-        let _ = print!(rt; "{:>width$}", "-");
-        return;
+// Writes the key, if there is one, at the right end of a column.
+pub fn key_column(rt: &impl Print, key: Option<Key>) {
+    match key {
+        None => say!(rt; "{:>12}", "-"),
+        Some(key) => say!(rt; "{:12}", key.0),
     }
-    column(rt, width, key as usize);
 }
 
 // How many bytes the base name takes in a path, with the point before it, if it is there.
@@ -65,6 +60,6 @@ fn path_width(path: Path) -> usize {
 pub fn path_column(rt: &impl Print, path: Path) {
     say_path(rt, path);
     for _ in path_width(path)..PATH_WIDTH {
-        say(rt, b" ");
+        say!(rt; " ");
     }
 }

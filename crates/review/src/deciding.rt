@@ -4,7 +4,7 @@ use crate::asking::ask;
 use crate::explaining::explain;
 use crate::files::{read_file, write_file};
 use crate::opening::open;
-use crate::printing::{say, say_bytes, say_count, say_with};
+use crate::printing::{say, say_bytes};
 use crate::troubles::Trouble;
 use crate::words::is_word;
 use kernel::answers::{DONE, UNNAMED};
@@ -30,12 +30,10 @@ fn grant(
 ) -> Result<(), Trouble> {
     save(rt, derivation)?;
     say_answer(rt, DONE);
-    say_with(rt, b"0 Granted, depth ", depth);
-    say(rt, b". The derivation has ");
-    say_count(rt, derivation.len());
-    say(rt, b" bytes:");
+    let length = derivation.len();
+    say!(rt; "0 Granted, depth {depth}. The derivation has {length} bytes:");
     say_bytes(rt, derivation);
-    say(rt, b"\n");
+    say!(rt; "\n");
     open(rt, table, |opened| {
         explain(rt, opened, request, derivation)
     });

@@ -2,10 +2,10 @@
 use crate::chains::explain_chain;
 use crate::names::{say_space, say_target, say_way};
 use crate::opened::OpenTable;
-use crate::printing::{say, say_with};
+use crate::printing::say;
 use crate::recounting::recount_binding;
 use records::derivations::{DerivationRead, read_derivation};
-use records::fields::{Field, read_field};
+use records::fields::{Field, Use, read_field};
 use records::requests::{RequestRead, read_request};
 use records::targets::Target;
 
@@ -35,13 +35,12 @@ fn explain_request(rt: &impl Print, opened: &OpenTable, request: &[u8]) {
     let RequestRead::Request(asked) = read_request(request, opened.keys.len()) else {
         return;
     };
-    say(rt, b"Asked: ");
+    let Use { object, right } = asked.wanted;
+    say!(rt; "Asked: ");
     say_target(rt, asked.subject);
-    say_with(rt, b", right ", asked.wanted.right);
-    say_with(rt, b" on object ", asked.wanted.object);
-    say(rt, b" of ");
+    say!(rt; ", right {right} on object {object} of ");
     say_space(rt, opened, asked.owner);
-    say(rt, b"\n");
+    say!(rt; "\n");
     if let Target::Name(space, path) = asked.subject {
         say_way(rt, opened, space, path);
     }
@@ -53,8 +52,8 @@ pub fn explain(rt: &impl Print, opened: &OpenTable, request: &[u8], derivation: 
     let DerivationRead::Derivation(parts) = read_derivation(derivation) else {
         return;
     };
-    say(rt, b"\nThe bindings that its names go through:\n");
+    say!(rt; "\nThe bindings that its names go through:\n");
     explain_bindings(rt, opened, derivation, parts.first, parts.bindings);
-    say(rt, b"\nIts chain:\n");
+    say!(rt; "\nIts chain:\n");
     explain_chain(rt, opened, derivation, parts.chain, parts.delegations);
 }

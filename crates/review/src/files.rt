@@ -2,7 +2,6 @@
 ghost use Rattle.std.specs.Prelude.{◌≡◌, IfOk, length};
 ghost use Rattle.streams.specs.Counts.{IsPrefixLen};
 
-use crate::printing::say;
 use crate::troubles::Trouble;
 use std::fs;
 use std::fs::OpenFile;
@@ -28,7 +27,7 @@ fn word(rt: &impl Env, i: usize, buffer: &mut [u8]) -> usize
 pub fn say_word(rt: &(impl Env + Print), i: usize) {
     let mut text = path_buffer();
     let length = word(rt, i, &mut text);
-    say(rt, &text[..length]);
+    let _ = rt.write_all(&text[..length]);
 }
 
 // Whether the system has taken what was written, where a write alone may not tell. A pipe or a device that knows no such question has taken it.

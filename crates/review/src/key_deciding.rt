@@ -2,7 +2,7 @@
 use crate::answers::{say_answer, say_refusal};
 use crate::asking::ask_by_keys;
 use crate::files::read_file;
-use crate::printing::{say, say_with};
+use crate::printing::say;
 use crate::troubles::Trouble;
 use kernel::answers::DONE;
 use kernel::rustamgheb_decide_by_keys;
@@ -17,8 +17,7 @@ fn answer(rt: &impl Print, table: &[u8], request: &[u8]) {
         return;
     }
     say_answer(rt, DONE);
-    say_with(rt, b"0 Granted, depth ", told.depth);
-    say(rt, b".\n");
+    say!(rt; "0 Granted, depth {}.\n", told.depth);
 }
 
 // Reads the key table and the key request, and answers.

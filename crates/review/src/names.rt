@@ -3,7 +3,7 @@ ghost use Rattle.std.specs.Prelude.{◌<◌, length};
 ghost use Rattle.sheet.specs.Finds.{Fitting};
 
 use crate::opened::OpenTable;
-use crate::printing::{say, say_count, say_number, say_with};
+use crate::printing::say;
 use records::paths::Path;
 use records::targets::Target;
 use rules::{Key, Space};
@@ -13,28 +13,27 @@ use table::finding::{BindingFound, SpaceFound, find_binding, find_space};
 // The base names, with a point between them; SELF where there are none.
 pub fn say_path(rt: &impl Print, path: Path) {
     if path.length == 0 {
-        say(rt, b"SELF");
+        say!(rt; "SELF");
         return;
     }
-    say_number(rt, path.first);
+    say!(rt; "{}", path.first);
     let further = [path.second, path.third, path.fourth];
     for base in further.iter().take(path.length - 1) {
-        say_with(rt, b".", *base);
+        say!(rt; ".{base}");
     }
 }
 
 // A name: a path in a space.
 pub fn say_name(rt: &impl Print, space: Space, path: Path) {
-    say(rt, b"name ");
+    say!(rt; "name ");
     say_path(rt, path);
-    say(rt, b" in space ");
-    say_count(rt, space.0);
+    say!(rt; " in space {}", space.0);
 }
 
 // A key, or a name.
 pub fn say_target(rt: &impl Print, target: Target) {
     match target {
-        Target::Key(key) => say_with(rt, b"key ", key.0),
+        Target::Key(key) => say!(rt; "key {}", key.0),
         Target::Name(space, path) => say_name(rt, space, path),
     }
 }
@@ -43,10 +42,8 @@ pub fn say_target(rt: &impl Print, target: Target) {
 pub fn say_space(rt: &impl Print, opened: &OpenTable, space: Space)
     requires { space.0 < length opened.now.keys.now }
 {
-    say(rt, b"space ");
-    say_count(rt, space.0);
-    say_with(rt, b" (key ", opened.keys[space.0]);
-    say(rt, b")");
+    let number = space.0;
+    say!(rt; "space {number} (key {})", opened.keys[number]);
 }
 
 // Follows one name from the key, and says the binding that it goes through, or why there is none.
@@ -54,30 +51,26 @@ fn go_on(rt: &impl Print, opened: &OpenTable, from: Key, base: u32) -> Option<Ke
     requires { base < 65536 }
 {
     let SpaceFound::Space(space) = find_space(opened.keys, from) else {
-        say(rt, b" -> no space has this key, so there is no meaning");
+        say!(rt; " -> no space has this key, so there is no meaning");
         return None;
     };
     let BindingFound::Binding(i) = find_binding(opened.names, space, base) else {
-        say_with(rt, b" -> its space does not bind ", base);
-        say(rt, b", so there is no meaning");
+        say!(rt; " -> its space does not bind {base}, so there is no meaning");
         return None;
     };
-    say(rt, b" -> binding ");
-    say_count(rt, i);
-    let key = opened.sheet[i];
-    if key == 0 {
-        say(rt, b" -> no meaning");
-        return None;
+    say!(rt; " -> binding {i} -> ");
+    let meaning = opened.meaning_at(i);
+    if meaning.is_none() {
+        say!(rt; "no meaning");
     }
-    say(rt, b" -> ");
-    Some(Key(key))
+    meaning
 }
 
 // Follows the path from the key, and says the bindings that it goes through and the keys that they mean.
 fn go_through(rt: &impl Print, opened: &OpenTable, from: Key, path: Path)
     requires { Fitting path }
 {
-    say_with(rt, b"key ", from.0);
+    say!(rt; "key {}", from.0);
     if path.length == 0 {
         return;
     }
@@ -90,9 +83,9 @@ fn go_through(rt: &impl Print, opened: &OpenTable, from: Key, path: Path)
 pub fn say_way(rt: &impl Print, opened: &OpenTable, space: Space, path: Path)
     requires { (space.0 < length opened.now.keys.now) × Fitting path }
 {
-    say(rt, b"      ");
+    say!(rt; "      ");
     say_name(rt, space, path);
-    say(rt, b": ");
+    say!(rt; ": ");
     go_through(rt, opened, Key(opened.keys[space.0]), path);
-    say(rt, b"\n");
+    say!(rt; "\n");
 }

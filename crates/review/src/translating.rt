@@ -1,7 +1,7 @@
 // review translate TABLE OUT: writes the table's key table.
 use crate::answers::{say_answer, say_refusal};
 use crate::files::{read_file, write_file};
-use crate::printing::{say, say_count};
+use crate::printing::say;
 use crate::troubles::Trouble;
 use kernel::answers::DONE;
 use kernel::rustamgheb_translate;
@@ -12,9 +12,7 @@ use streams::large_buffer;
 fn done(rt: &(impl Env + Files + Print), key_table: &[u8]) -> Result<(), Trouble> {
     write_file(rt, 3, key_table)?;
     say_answer(rt, DONE);
-    say(rt, b"0 Translated: the key table has ");
-    say_count(rt, key_table.len());
-    say(rt, b" bytes.\n");
+    say!(rt; "0 Translated: the key table has {} bytes.\n", key_table.len());
     Ok(())
 }
 

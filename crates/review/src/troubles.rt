@@ -25,24 +25,24 @@ impl Trouble {
     }
 }
 
-// Writes the text and the word number `i` on a line.
-fn say_file(rt: &(impl Env + Print), why: &[u8], i: usize) {
-    say(rt, why);
-    say_word(rt, i);
-    say(rt, b"\n");
-}
-
 // Writes what the trouble is.
 pub fn say_trouble(rt: &(impl Env + Print), trouble: Trouble) {
     say_answer(rt, trouble.number());
     match trouble {
-        Trouble::NoCommand => say(rt, b"no such command; './review help' has the words\n"),
-        Trouble::NoRequest => say(
-            rt,
-            b"these words say no request; './review help' has the words\n",
-        ),
-        Trouble::Unread(i) => say_file(rt, b"cannot read ", i),
-        Trouble::Unwritten(i) => say_file(rt, b"cannot write ", i),
-        Trouble::PartlyWritten(i) => say_file(rt, b"cannot write all of ", i),
+        Trouble::NoCommand => say!(rt; "no such command; './review help' has the words"),
+        Trouble::NoRequest => say!(rt; "these words say no request; './review help' has the words"),
+        Trouble::Unread(i) => {
+            say!(rt; "cannot read ");
+            say_word(rt, i);
+        }
+        Trouble::Unwritten(i) => {
+            say!(rt; "cannot write ");
+            say_word(rt, i);
+        }
+        Trouble::PartlyWritten(i) => {
+            say!(rt; "cannot write all of ");
+            say_word(rt, i);
+        }
     }
+    say!(rt; "\n");
 }
