@@ -1,4 +1,3 @@
 -- Laws of the reviewer's tool.
 pub mod FoundLaws
-pub mod PartsLaws
 pub mod WordsLaws

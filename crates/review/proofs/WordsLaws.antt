@@ -5,6 +5,7 @@ use mathlib.Core.Logic.{◌⊎◌, inl, inr}
 use mathlib.Core.List.{List, [], ◌∷◌}
 use Prim.Native.Nat.{ℕ, suc, ◌+◌, ◌-◌, ◌*◌, ◌<◌, ◌≤◌}
 use native.Mathlib.Omega.{arith}
+use Rattle.std.proofs.Common.{add-one}
 use lib.Dec.{ltb}
 use lib.ListN.{length, get_or, drop}
 use lib.Seq.{drop-cons, drop-length}
@@ -12,9 +13,6 @@ use borrow.Author.Tests.{lt-ltb, le-ltb}
 use Rattle.wire.specs.Number.{most_number}
 use Rattle.review.specs.Words.{digits_after, number_said}
 use Rattle.std.specs.Prelude.{Some, None}
-
-one_more : (i : ℕ) → suc i ≡ i + 1
-one_more i = omega arith
 
 -- ---- the digits of a word, of which the first `i` said `v`
 pub record Reading (s : List ℕ) (v i : ℕ) : Type 0 where
@@ -58,7 +56,7 @@ module _ (s : List ℕ) (v i : ℕ) (r : Reading s v i) (h : i < length s) (d : 
 
     pub reading_on : (w : ℕ) → w ≡ 10 * v + (d - 48) → w ≤ most_number → Reading s w (i + 1)
     unfolding digits_after
-    reading_on w is g = record { small = g; within = omega arith; same = goes ∙ ap (λ (j : ℕ). digits_after w (drop j s)) (one_more i) }
+    reading_on w is g = record { small = g; within = omega arith; same = goes ∙ ap (λ (j : ℕ). digits_after w (drop j s)) (sym (add-one i)) }
       where
         goes : number_said s ≡ digits_after w (drop (suc i) s)
         goes = here ∙ simp (le-ltb d 48 low, le-ltb 57 d high, ← is, le-ltb most_number w g)

@@ -1,5 +1,5 @@
 // Files that words name.
-ghost use Rattle.std.specs.Prelude.{◌≡◌, IfOk, length};
+ghost use Rattle.std.specs.Prelude.{IfOk};
 ghost use Rattle.streams.specs.Counts.{IsPrefixLen};
 
 use crate::troubles::Trouble;
@@ -9,25 +9,15 @@ use std::io::{ErrorKind, Write};
 use std::rt::{Env, Files};
 use streams::read_full;
 
-// 4,096 zeros, which hold any path.
-fn path_buffer() -> [u8; 4096]
-    ensures { 4096 ≡ length result }
-{
-    [0; 4096]
-}
+// No path is longer.
+const MOST_PATH: usize = 4096;
 
-// Puts word number `i` at the start of the buffer and answers its length, or 0 where it is missing or longer than the buffer.
-fn word(rt: &impl Env, i: usize, buffer: &mut [u8]) -> usize
-    ensures { IsPrefixLen result buffer.new }
-{
-    rt.arg(i, buffer).unwrap_or(0)
-}
-
-// Writes the word number `i`.
+// Writes the word number `i`; nothing, where it is missing or longer than any path.
 pub fn say_word(rt: &(impl Env + Print), i: usize) {
-    let mut text = path_buffer();
-    let length = word(rt, i, &mut text);
-    let _ = rt.write_all(&text[..length]);
+    let mut text = [0; MOST_PATH];
+    if let Ok(length) = rt.arg(i, &mut text) {
+        let _ = rt.write_all(&text[..length]);
+    }
 }
 
 // Whether the system has taken what was written, where a write alone may not tell. A pipe or a device that knows no such question has taken it.
@@ -45,8 +35,10 @@ fn settled(file: &impl OpenFile) -> bool {
 pub fn read_file(rt: &(impl Env + Files), i: usize, buffer: &mut [u8]) -> Result<usize, Trouble>
     ensures { IfOk result (λ n. IsPrefixLen n buffer.new) }
 {
-    let mut path = path_buffer();
-    let length = word(rt, i, &mut path);
+    let mut path = [0; MOST_PATH];
+    let Ok(length) = rt.arg(i, &mut path) else {
+        return Err(Trouble::Unread(i));
+    };
     let name = str::from_utf8(&path[..length]).map_err(|_| Trouble::Unread(i))?;
     let mut file = fs::open(rt, name).map_err(|_| Trouble::Unread(i))?;
     Ok(read_full(&mut file, buffer))
@@ -54,8 +46,10 @@ pub fn read_file(rt: &(impl Env + Files), i: usize, buffer: &mut [u8]) -> Result
 
 // Writes the bytes to the file that word number `i` names, all of them.
 pub fn write_file(rt: &(impl Env + Files), i: usize, bytes: &[u8]) -> Result<(), Trouble> {
-    let mut path = path_buffer();
-    let length = word(rt, i, &mut path);
+    let mut path = [0; MOST_PATH];
+    let Ok(length) = rt.arg(i, &mut path) else {
+        return Err(Trouble::Unwritten(i));
+    };
     let name = str::from_utf8(&path[..length]).map_err(|_| Trouble::Unwritten(i))?;
     let mut file = fs::create(rt, name).map_err(|_| Trouble::Unwritten(i))?;
     if file.write_all(bytes).is_ok() && settled(&file) {

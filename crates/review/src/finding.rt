@@ -1,5 +1,5 @@
 // A record by its number, read where it stands in an open table, and what a binding means.
-ghost use Rattle.std.specs.Prelude.{◌≡◌, ◌<◌, length, slice_index, IfSome, MatchOption};
+ghost use Rattle.std.specs.Prelude.{◌≡◌, ◌<◌, ◌≤◌, length, slice_index, IfSome, MatchOption};
 ghost use Rattle.sheet.specs.Finds.{Fitting};
 
 use crate::opened::OpenTable;
@@ -16,7 +16,7 @@ impl OpenTable<'_> {
         let place = usize::from(self.bindings[i]);
         match read_binding(&self.table[place..], self.keys.len(), &self.names[..0]) {
             BindingRead::Binding(binding, _) => Some(binding),
-            _ => None,
+            BindingRead::Fault(_) => None,
         }
     }
 
@@ -47,7 +47,7 @@ impl OpenTable<'_> {
     // What binding number `i` means, by the sheet: a key, unless its entry is 0.
     pub fn meaning_at(&self, i: usize) -> Option<Key>
         requires { i < length self.now.names.now }
-        ensures { MatchOption result (slice_index self.now.sheet.now i ≡ 0) (λ k. k.0 ≡ slice_index self.now.sheet.now i) }
+        ensures { MatchOption result (slice_index self.now.sheet.now i ≡ 0) (λ k. (k.0 ≡ slice_index self.now.sheet.now i) × (1 ≤ k.0)) }
     {
         match self.sheet[i] {
             0 => None,
