@@ -36,9 +36,7 @@ pub fn read_file(rt: &(impl Env + Files), i: usize, buffer: &mut [u8]) -> Result
     ensures { IfOk result (λ n. IsPrefixLen n buffer.new) }
 {
     let mut path = [0; MOST_PATH];
-    let Ok(length) = rt.arg(i, &mut path) else {
-        return Err(Trouble::Unread(i));
-    };
+    let length = rt.arg(i, &mut path).map_err(|_| Trouble::Unread(i))?;
     let name = str::from_utf8(&path[..length]).map_err(|_| Trouble::Unread(i))?;
     let mut file = fs::open(rt, name).map_err(|_| Trouble::Unread(i))?;
     Ok(read_full(&mut file, buffer))
@@ -47,9 +45,7 @@ pub fn read_file(rt: &(impl Env + Files), i: usize, buffer: &mut [u8]) -> Result
 // Writes the bytes to the file that word number `i` names, all of them.
 pub fn write_file(rt: &(impl Env + Files), i: usize, bytes: &[u8]) -> Result<(), Trouble> {
     let mut path = [0; MOST_PATH];
-    let Ok(length) = rt.arg(i, &mut path) else {
-        return Err(Trouble::Unwritten(i));
-    };
+    let length = rt.arg(i, &mut path).map_err(|_| Trouble::Unwritten(i))?;
     let name = str::from_utf8(&path[..length]).map_err(|_| Trouble::Unwritten(i))?;
     let mut file = fs::create(rt, name).map_err(|_| Trouble::Unwritten(i))?;
     if file.write_all(bytes).is_ok() && settled(&file) {

@@ -29,9 +29,7 @@ mod writing;
 // Carries out the command that the first word says.
 fn run(rt: &(impl Env + Files + Print)) -> Result<(), Trouble> {
     let mut word = [0u8; 16];
-    let Ok(length) = rt.arg(1, &mut word) else {
-        return Err(Trouble::NoCommand);
-    };
+    let length = rt.arg(1, &mut word).map_err(|_| Trouble::NoCommand)?;
     match &word[..length] {
         b"decide" => deciding::run(rt),
         b"check" => checking::run(rt),

@@ -19,10 +19,8 @@ pub fn word_count(rt: &impl Env) -> usize {
 // Whether word number `i` is this text.
 pub fn is_word(rt: &impl Env, i: usize, text: &[u8]) -> bool {
     let mut word = [0u8; 16];
-    let Ok(length) = rt.arg(i, &mut word) else {
-        return false;
-    };
-    &word[..length] == text
+    let found = rt.arg(i, &mut word);
+    found.is_ok_and(|length| &word[..length] == text)
 }
 
 // The number that decimal digits say, unless it is above 4,294,967,295.
@@ -46,8 +44,6 @@ fn read_digits(digits: &[u8]) -> Option<u32>
 // The number that word number `i` says.
 pub fn number_word(rt: &impl Env, i: usize) -> Option<u32> {
     let mut word = [0u8; 16];
-    let Ok(length) = rt.arg(i, &mut word) else {
-        return None;
-    };
+    let length = rt.arg(i, &mut word).ok()?;
     read_digits(&word[..length])
 }
