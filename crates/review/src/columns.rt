@@ -1,7 +1,7 @@
 // Keys and paths in columns.
 ghost use Rattle.std.specs.Prelude.{◌≤◌};
 
-use crate::names::say_path;
+use crate::names::InWords;
 use crate::printing::say;
 use records::paths::Path;
 use rules::Key;
@@ -58,7 +58,7 @@ fn path_width(path: Path) -> usize {
 
 // Writes the path at the left end of a column.
 pub fn path_column(rt: &impl Print, path: Path) {
-    say_path(rt, path);
+    say!(rt; "{}", InWords(path));
     for _ in path_width(path)..PATH_WIDTH {
         say!(rt; " ");
     }

@@ -1,6 +1,6 @@
 // A request and its derivation: who asks for what, the bindings that the derivation lists, and its chain.
 use crate::chains::explain_chain;
-use crate::names::{say_space, say_target, say_way};
+use crate::names::{InWords, say_space, say_way};
 use crate::opened::OpenTable;
 use crate::printing::say;
 use crate::recounting::recount_binding;
@@ -36,9 +36,8 @@ fn explain_request(rt: &impl Print, opened: &OpenTable, request: &[u8]) {
         return;
     };
     let Use { object, right } = asked.wanted;
-    say!(rt; "Asked: ");
-    say_target(rt, asked.subject);
-    say!(rt; ", right {right} on object {object} of ");
+    let subject = InWords(asked.subject);
+    say!(rt; "Asked: {subject}, right {right} on object {object} of ");
     say_space(rt, opened, asked.owner);
     say!(rt; "\n");
     if let Target::Name(space, path) = asked.subject {

@@ -8,33 +8,36 @@ use records::paths::Path;
 use records::targets::Target;
 use rules::{Key, Space};
 use sheet::following::rest_of;
+use std::fmt;
 use table::finding::{BindingFound, SpaceFound, find_binding, find_space};
 
+// What is printed in words.
+#[derive(Clone, Copy)]
+pub struct InWords<T>(pub T);
+
 // The base names, with a point between them; SELF where there are none.
-pub fn say_path(rt: &impl Print, path: Path) {
-    if path.length == 0 {
-        say!(rt; "SELF");
-        return;
-    }
-    say!(rt; "{}", path.first);
-    let further = [path.second, path.third, path.fourth];
-    for base in further.iter().take(path.length - 1) {
-        say!(rt; ".{base}");
+impl fmt::Display for InWords<Path> {
+    fn fmt<W: fmt::Write>(&self, f: &mut fmt::Formatter<W>) -> fmt::Result {
+        let path = self.0;
+        if path.length == 0 {
+            return write!(f, "SELF");
+        }
+        write!(f, "{}", path.first)?;
+        let further = [path.second, path.third, path.fourth];
+        for base in further.iter().take(path.length - 1) {
+            write!(f, ".{base}")?;
+        }
+        Ok(())
     }
 }
 
-// A name: a path in a space.
-pub fn say_name(rt: &impl Print, space: Space, path: Path) {
-    say!(rt; "name ");
-    say_path(rt, path);
-    say!(rt; " in space {}", space.0);
-}
-
-// A key, or a name.
-pub fn say_target(rt: &impl Print, target: Target) {
-    match target {
-        Target::Key(key) => say!(rt; "key {}", key.0),
-        Target::Name(space, path) => say_name(rt, space, path),
+// A key, or a name: a path in a space.
+impl fmt::Display for InWords<Target> {
+    fn fmt<W: fmt::Write>(&self, f: &mut fmt::Formatter<W>) -> fmt::Result {
+        match self.0 {
+            Target::Key(key) => write!(f, "key {}", key.0),
+            Target::Name(space, path) => write!(f, "name {} in space {}", InWords(path), space.0),
+        }
     }
 }
 
@@ -83,9 +86,7 @@ fn go_through(rt: &impl Print, opened: &OpenTable, from: Key, path: Path)
 pub fn say_way(rt: &impl Print, opened: &OpenTable, space: Space, path: Path)
     requires { (space.0 < length opened.now.keys.now) × Fitting path }
 {
-    say!(rt; "      ");
-    say_name(rt, space, path);
-    say!(rt; ": ");
+    say!(rt; "      {}: ", InWords(Target::Name(space, path)));
     go_through(rt, opened, Key(opened.keys[space.0]), path);
     say!(rt; "\n");
 }

@@ -1,7 +1,7 @@
 // Records by their number, in words, with what their names mean.
 ghost use Rattle.std.specs.Prelude.{◌<◌, length};
 
-use crate::names::{say_path, say_space, say_target, say_way};
+use crate::names::{InWords, say_space, say_way};
 use crate::opened::OpenTable;
 use crate::printing::say;
 use records::bindings::Binding;
@@ -28,19 +28,8 @@ pub fn recount_binding(rt: &impl Print, opened: &OpenTable, i: usize)
         base,
         target,
     } = binding;
-    say!(rt; "  binding {i}: space {} binds {base} to ", space.0);
-    say_target(rt, target);
+    say!(rt; "  binding {i}: space {} binds {base} to {}", space.0, InWords(target));
     say_meaning(rt, opened.meaning_at(i));
-}
-
-// What a record is for.
-fn say_use(rt: &impl Print, wanted: Use) {
-    say!(rt; " right {} on object {}", wanted.right, wanted.object);
-}
-
-// The depth that a record says.
-fn say_depth(rt: &impl Print, depth: Depth) {
-    say!(rt; ", depth {}\n", depth.number());
 }
 
 // Access record number `i`: whose list it is in, what it gives and to which name, and which key that means; answers its depth.
@@ -50,10 +39,10 @@ pub fn recount_access(rt: &impl Print, opened: &OpenTable, i: usize) -> Option<D
     let access = opened.access_at(i)?;
     say!(rt; "  access record {i}: ");
     say_space(rt, opened, access.owner);
-    say!(rt; " gives its name ");
-    say_path(rt, access.path);
-    say_use(rt, access.wanted);
-    say_depth(rt, access.depth);
+    let Use { object, right } = access.wanted;
+    let depth = access.depth.number();
+    let path = InWords(access.path);
+    say!(rt; " gives its name {path} right {right} on object {object}, depth {depth}\n");
     say_way(rt, opened, access.owner, access.path);
     Some(access.depth)
 }
@@ -65,12 +54,11 @@ pub fn recount_delegation(rt: &impl Print, opened: &OpenTable, j: usize) -> Opti
     let delegation = opened.delegation_at(j)?;
     say!(rt; "  delegation {j}: ");
     say_space(rt, opened, delegation.writer);
-    say!(rt; " hands its name ");
-    say_path(rt, delegation.delegatee);
-    say_use(rt, delegation.wanted);
-    say!(rt; " of its name ");
-    say_path(rt, delegation.owner);
-    say_depth(rt, delegation.depth);
+    let Use { object, right } = delegation.wanted;
+    let depth = delegation.depth.number();
+    let path = InWords(delegation.delegatee);
+    let owner = InWords(delegation.owner);
+    say!(rt; " hands its name {path} right {right} on object {object} of its name {owner}, depth {depth}\n");
     say_way(rt, opened, delegation.writer, delegation.owner);
     say_way(rt, opened, delegation.writer, delegation.delegatee);
     Some(delegation.depth)

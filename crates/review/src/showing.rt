@@ -5,7 +5,7 @@ ghost use Rattle.sheet.specs.Finds.{Fitting};
 use crate::answers::say_answer;
 use crate::columns::{key_column, path_column};
 use crate::files::read_file;
-use crate::names::{say_path, say_target};
+use crate::names::InWords;
 use crate::opened::OpenTable;
 use crate::opening::open;
 use crate::printing::say;
@@ -45,9 +45,7 @@ fn show_binding(rt: &impl Print, opened: &OpenTable, i: usize)
     };
     say!(rt; "{i:9}{:7}{:7}", binding.space.0, binding.base);
     key_column(rt, opened.meaning_at(i));
-    say!(rt; "  ");
-    say_target(rt, binding.target);
-    say!(rt; "\n");
+    say!(rt; "  {}\n", InWords(binding.target));
 }
 
 // The bindings.
@@ -69,9 +67,7 @@ fn show_access(rt: &impl Print, opened: &OpenTable, i: usize)
     let depth = access.depth.number();
     say!(rt; "{i:15}{:7}{object:8}{right:7}{depth:7}", access.owner.0);
     key_column(rt, key_of(opened, access.owner, access.path));
-    say!(rt; "  ");
-    say_path(rt, access.path);
-    say!(rt; "\n");
+    say!(rt; "  {}\n", InWords(access.path));
 }
 
 // The access records.
@@ -97,9 +93,7 @@ fn show_delegation(rt: &impl Print, opened: &OpenTable, j: usize)
     key_column(rt, key_of(opened, writer, delegation.delegatee));
     say!(rt; "  ");
     path_column(rt, delegation.owner);
-    say!(rt; "  ");
-    say_path(rt, delegation.delegatee);
-    say!(rt; "\n");
+    say!(rt; "  {}\n", InWords(delegation.delegatee));
 }
 
 // The delegations.
