@@ -1,4 +1,4 @@
 -- What the reviewer's tool says.
-pub mod Opened
+pub mod Bindings
 pub mod Steps
 pub mod Words

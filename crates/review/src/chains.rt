@@ -4,7 +4,7 @@ ghost use Rattle.review.specs.Steps.{Stepped};
 use crate::opened::OpenTable;
 use crate::printing::say;
 use crate::recounting::{recount_access, recount_delegation};
-use records::fields::{Field, read_field};
+use records::fields::read_field;
 use rules::Depth;
 
 // The depth that is reached.
@@ -24,10 +24,10 @@ fn step(before: Depth, by: Depth) -> Option<Depth>
 
 // Delegation number `j` as a step from the depth `before`; answers the depth after it.
 fn explain_step(rt: &impl Print, opened: &OpenTable, j: usize, before: Depth) -> Option<Depth> {
-    if opened.delegations.len() <= j {
+    if opened.good.delegations.len() <= j {
         return None;
     }
-    let by = recount_delegation(rt, opened, j)?;
+    let by = recount_delegation(rt, opened, j);
     let after = step(before, by)?;
     say_depth(rt, after);
     Some(after)
@@ -45,7 +45,7 @@ fn explain_steps(
     let mut depth = start;
     let mut at = from;
     for _ in 0..count {
-        let Field::Value(value, next) = read_field(derivation, at, 0, 511) else {
+        let Ok((value, next)) = read_field(derivation, at, 0, 511) else {
             return;
         };
         let Some(after) = explain_step(rt, opened, value as usize, depth) else {
@@ -64,16 +64,14 @@ pub fn explain_chain(
     at: usize,
     count: usize,
 ) {
-    let Field::Value(value, from) = read_field(derivation, at, 0, 255) else {
+    let Ok((value, from)) = read_field(derivation, at, 0, 255) else {
         return;
     };
     let i = value as usize;
-    if opened.accesses.len() <= i {
+    if opened.good.accesses.len() <= i {
         return;
     }
-    let Some(depth) = recount_access(rt, opened, i) else {
-        return;
-    };
+    let depth = recount_access(rt, opened, i);
     say_depth(rt, depth);
     explain_steps(rt, opened, derivation, from, count, depth);
 }

@@ -4,9 +4,9 @@ use crate::names::{InWords, say_space, say_way};
 use crate::opened::OpenTable;
 use crate::printing::say;
 use crate::recounting::recount_binding;
-use records::derivations::{DerivationRead, read_derivation};
-use records::fields::{Field, Use, read_field};
-use records::requests::{RequestRead, read_request};
+use records::derivations::read_derivation;
+use records::fields::{Use, read_field};
+use records::requests::read_request;
 use records::targets::Target;
 
 // The bindings whose numbers stand from the place `from` on, so many of them.
@@ -19,11 +19,11 @@ fn explain_bindings(
 ) {
     let mut at = from;
     for _ in 0..count {
-        let Field::Value(value, next) = read_field(derivation, at, 0, 255) else {
+        let Ok((value, next)) = read_field(derivation, at, 0, 255) else {
             return;
         };
         let i = value as usize;
-        if i < opened.names.len() {
+        if i < opened.good.names.packed.len() {
             recount_binding(rt, opened, i);
         }
         at = next;
@@ -32,7 +32,7 @@ fn explain_bindings(
 
 // Who asks for what, and which key that is.
 fn explain_request(rt: &impl Print, opened: &OpenTable, request: &[u8]) {
-    let RequestRead::Request(asked) = read_request(request, opened.keys.len()) else {
+    let Some(asked) = read_request(request, opened.good.names.keys.len()) else {
         return;
     };
     let Use { object, right } = asked.wanted;
@@ -48,7 +48,7 @@ fn explain_request(rt: &impl Print, opened: &OpenTable, request: &[u8]) {
 // The request, and the whole derivation.
 pub fn explain(rt: &impl Print, opened: &OpenTable, request: &[u8], derivation: &[u8]) {
     explain_request(rt, opened, request);
-    let DerivationRead::Derivation(parts) = read_derivation(derivation) else {
+    let Some(parts) = read_derivation(derivation) else {
         return;
     };
     say!(rt; "\nThe bindings that its names go through:\n");

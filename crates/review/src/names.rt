@@ -9,7 +9,7 @@ use records::targets::Target;
 use rules::{Key, Space};
 use sheet::following::rest_of;
 use std::fmt;
-use table::finding::{BindingFound, SpaceFound, find_binding, find_space};
+use table::finding::{find_binding, find_space};
 
 // What is printed in words.
 #[derive(Clone, Copy)]
@@ -43,21 +43,21 @@ impl fmt::Display for InWords<Target> {
 
 // A space with its key.
 pub fn say_space(rt: &impl Print, opened: &OpenTable, space: Space)
-    requires { space.0 < length opened.now.keys.now }
+    requires { space.0 < length opened.now.good.names.keys.now }
 {
     let number = space.0;
-    say!(rt; "space {number} (key {})", opened.keys[number]);
+    say!(rt; "space {number} (key {})", opened.good.names.keys[number]);
 }
 
 // Follows one name from the key, and says the binding that it goes through, or why there is none.
 fn go_on(rt: &impl Print, opened: &OpenTable, from: Key, base: u32) -> Option<Key>
     requires { base < 65536 }
 {
-    let SpaceFound::Space(space) = find_space(opened.keys, from) else {
+    let Some(space) = find_space(opened.good.names.keys, from) else {
         say!(rt; " -> no space has this key, so there is no meaning");
         return None;
     };
-    let BindingFound::Binding(i) = find_binding(opened.names, space, base) else {
+    let Some(i) = find_binding(opened.good.names.packed, space, base) else {
         say!(rt; " -> its space does not bind {base}, so there is no meaning");
         return None;
     };
@@ -84,9 +84,9 @@ fn go_through(rt: &impl Print, opened: &OpenTable, from: Key, path: Path)
 
 // A line of the name: from its space's key, the bindings that it goes through and the keys that they mean.
 pub fn say_way(rt: &impl Print, opened: &OpenTable, space: Space, path: Path)
-    requires { (space.0 < length opened.now.keys.now) × Fitting path }
+    requires { (space.0 < length opened.now.good.names.keys.now) × Fitting path }
 {
     say!(rt; "      {}: ", InWords(Target::Name(space, path)));
-    go_through(rt, opened, Key(opened.keys[space.0]), path);
+    go_through(rt, opened, Key(opened.good.names.keys[space.0]), path);
     say!(rt; "\n");
 }

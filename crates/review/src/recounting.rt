@@ -18,25 +18,22 @@ fn say_meaning(rt: &impl Print, meaning: Option<Key>) {
 
 // Binding number `i`: the name that it binds, its target, and the key that this means.
 pub fn recount_binding(rt: &impl Print, opened: &OpenTable, i: usize)
-    requires { i < length opened.now.names.now }
+    requires { i < length opened.now.good.names.packed.now }
 {
-    let Some(binding) = opened.binding_at(i) else {
-        return;
-    };
     let Binding {
         space,
         base,
         target,
-    } = binding;
+    } = opened.binding_at(i);
     say!(rt; "  binding {i}: space {} binds {base} to {}", space.0, InWords(target));
     say_meaning(rt, opened.meaning_at(i));
 }
 
 // Access record number `i`: whose list it is in, what it gives and to which name, and which key that means; answers its depth.
-pub fn recount_access(rt: &impl Print, opened: &OpenTable, i: usize) -> Option<Depth>
-    requires { i < length opened.now.accesses.now }
+pub fn recount_access(rt: &impl Print, opened: &OpenTable, i: usize) -> Depth
+    requires { i < length opened.now.good.accesses.now }
 {
-    let access = opened.access_at(i)?;
+    let access = opened.good.access(i);
     say!(rt; "  access record {i}: ");
     say_space(rt, opened, access.owner);
     let Use { object, right } = access.wanted;
@@ -44,14 +41,14 @@ pub fn recount_access(rt: &impl Print, opened: &OpenTable, i: usize) -> Option<D
     let path = InWords(access.path);
     say!(rt; " gives its name {path} right {right} on object {object}, depth {depth}\n");
     say_way(rt, opened, access.owner, access.path);
-    Some(access.depth)
+    access.depth
 }
 
 // Delegation number `j`: who wrote it, whose object it is for, what it gives and to which name, and which keys these mean; answers its depth.
-pub fn recount_delegation(rt: &impl Print, opened: &OpenTable, j: usize) -> Option<Depth>
-    requires { j < length opened.now.delegations.now }
+pub fn recount_delegation(rt: &impl Print, opened: &OpenTable, j: usize) -> Depth
+    requires { j < length opened.now.good.delegations.now }
 {
-    let delegation = opened.delegation_at(j)?;
+    let delegation = opened.good.delegation(j);
     say!(rt; "  delegation {j}: ");
     say_space(rt, opened, delegation.writer);
     let Use { object, right } = delegation.wanted;
@@ -61,5 +58,5 @@ pub fn recount_delegation(rt: &impl Print, opened: &OpenTable, j: usize) -> Opti
     say!(rt; " hands its name {path} right {right} on object {object} of its name {owner}, depth {depth}\n");
     say_way(rt, opened, delegation.writer, delegation.owner);
     say_way(rt, opened, delegation.writer, delegation.delegatee);
-    Some(delegation.depth)
+    delegation.depth
 }

@@ -14,35 +14,29 @@ use kernel::answers::DONE;
 use records::fields::Use;
 use records::paths::Path;
 use rules::{Key, Space};
-use sheet::following::{Followed, follow_name};
 use std::rt::{Env, Files};
 use streams::large_buffer;
 
 // The key that a name means, if any.
 fn key_of(opened: &OpenTable, space: Space, path: Path) -> Option<Key>
-    requires { (space.0 < length opened.now.keys.now) × Fitting path }
+    requires { (space.0 < length opened.now.good.names.keys.now) × Fitting path }
 {
-    match follow_name(opened.keys, opened.names, opened.sheet, space, path) {
-        Followed::Key(key) => Some(key),
-        Followed::Nothing => None,
-    }
+    opened.good.names.follow_name(opened.sheet, space, path)
 }
 
 // The spaces, each with its key.
 fn show_spaces(rt: &impl Print, opened: &OpenTable) {
     say!(rt; "  space         key\n");
-    for (i, key) in opened.keys.iter().enumerate() {
+    for (i, key) in opened.good.names.keys.iter().enumerate() {
         say!(rt; "{i:7}{key:12}\n");
     }
 }
 
 // Binding number `i`.
 fn show_binding(rt: &impl Print, opened: &OpenTable, i: usize)
-    requires { i < length opened.now.names.now }
+    requires { i < length opened.now.good.names.packed.now }
 {
-    let Some(binding) = opened.binding_at(i) else {
-        return;
-    };
+    let binding = opened.binding_at(i);
     say!(rt; "{i:9}{:7}{:7}", binding.space.0, binding.base);
     key_column(rt, opened.meaning_at(i));
     say!(rt; "  {}\n", InWords(binding.target));
@@ -51,18 +45,16 @@ fn show_binding(rt: &impl Print, opened: &OpenTable, i: usize)
 // The bindings.
 fn show_bindings(rt: &impl Print, opened: &OpenTable) {
     say!(rt; "\n  binding  space   name         key  target\n");
-    for i in 0..opened.names.len() {
+    for i in 0..opened.good.names.packed.len() {
         show_binding(rt, opened, i);
     }
 }
 
 // Access record number `i`.
 fn show_access(rt: &impl Print, opened: &OpenTable, i: usize)
-    requires { i < length opened.now.accesses.now }
+    requires { i < length opened.now.good.accesses.now }
 {
-    let Some(access) = opened.access_at(i) else {
-        return;
-    };
+    let access = opened.good.access(i);
     let Use { object, right } = access.wanted;
     let depth = access.depth.number();
     say!(rt; "{i:15}{:7}{object:8}{right:7}{depth:7}", access.owner.0);
@@ -73,18 +65,16 @@ fn show_access(rt: &impl Print, opened: &OpenTable, i: usize)
 // The access records.
 fn show_accesses(rt: &impl Print, opened: &OpenTable) {
     say!(rt; "\n  access record  owner  object  right  depth         key  name\n");
-    for i in 0..opened.accesses.len() {
+    for i in 0..opened.good.accesses.len() {
         show_access(rt, opened, i);
     }
 }
 
 // Delegation number `j`.
 fn show_delegation(rt: &impl Print, opened: &OpenTable, j: usize)
-    requires { j < length opened.now.delegations.now }
+    requires { j < length opened.now.good.delegations.now }
 {
-    let Some(delegation) = opened.delegation_at(j) else {
-        return;
-    };
+    let delegation = opened.good.delegation(j);
     let Use { object, right } = delegation.wanted;
     let depth = delegation.depth.number();
     let writer = delegation.writer;
@@ -99,7 +89,7 @@ fn show_delegation(rt: &impl Print, opened: &OpenTable, j: usize)
 // The delegations.
 fn show_delegations(rt: &impl Print, opened: &OpenTable) {
     say!(rt; "\n  delegation  writer  object  right  depth   owner key         key  owner                    name\n");
-    for j in 0..opened.delegations.len() {
+    for j in 0..opened.good.delegations.len() {
         show_delegation(rt, opened, j);
     }
 }

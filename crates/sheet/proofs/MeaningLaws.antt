@@ -71,9 +71,9 @@ module _ (t : NameTable) (s keys names places : List ℕ) (known : Known t s key
   place_within = known.standing.within i (omega (arith, index_bindings t keys names known.index))
 
   module _ (r : Result (BindingValue × ℕ) Fault) (found : r ≡ found_as binding_value (binding_record (length keys) (λ S b. is_among (take 0 names) (packed S b)) (rest s (get_or places i 0)) 0)) where
-    reads : (x : Binding) → At t.bindings i x → (n : ℕ) × (r ≡ Ok (binding_value x, n))
+    pub binding_reads : (x : Binding) → At t.bindings i x → (n : ℕ) × (r ≡ Ok (binding_value x, n))
     unfolding is_among
-    reads x a =
+    binding_reads x a =
         let w = known.standing.stands i x a in
         let b = there_back (λ earlier. binding_record (length keys) unbound) (λ earlier. binding_walks (length keys) unbound) s [] (get_or places i 0) place_within x w.0 w.1 in
         (b.0, found ∙ ap (found_as binding_value) b.1)
@@ -81,7 +81,7 @@ module _ (t : NameTable) (s keys names places : List ℕ) (known : Known t s key
     pub no_fault : (f : Fault) → r ≡ Err f → ⊥
     no_fault f e =
         let x = at_below t.bindings i (omega (arith, index_bindings t keys names known.index)) in
-        let w = reads x.0 x.1 in
+        let w = binding_reads x.0 x.1 in
         let q : ◌≡◌ {A = Result (BindingValue × ℕ) Fault} (Ok (binding_value x.0, w.0)) (Err f) = sym w.1 ∙ e in
         let z : ◌≡◌ {A = ℕ} 0 1 = cc in
         absurd (omega arith)
@@ -89,7 +89,7 @@ module _ (t : NameTable) (s keys names places : List ℕ) (known : Known t s key
     module _ (v : BindingValue) (n : ℕ) (e : r ≡ Ok (v, n)) where
       is_value : (x : Binding) → At t.bindings i x → v.target ≡ target_value x.target
       is_value x a =
-          let w = reads x a in
+          let w = binding_reads x a in
           let q : ◌≡◌ {A = Result (BindingValue × ℕ) Fault} (Ok (binding_value x, w.0)) (Ok (v, n)) = sym w.1 ∙ e in
           let t : ◌≡◌ {A = BindingValue × ℕ} (binding_value x, w.0) (v, n) = cc q in
           let y : binding_value x ≡ v = ap (λ z. z.0) t in
