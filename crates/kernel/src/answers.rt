@@ -76,11 +76,9 @@ pub fn of_fault(fault: Fault) -> Answer
     requires { Fits (of_fault fault) }
     ensures { result ≡ of_fault fault }
 {
-    let kind = fault.kind;
-    let place = fault.place;
     Answer {
-        number: number_of(kind),
-        offset: place.offset as u32,
+        number: number_of(fault.kind),
+        offset: fault.place.offset as u32,
         depth: 0,
         length: 0,
     }
