@@ -1,21 +1,18 @@
 -- Published values of FNV-1a of 32 bits.
 use mathlib.Core.Path.{◌≡◌, refl}
 use mathlib.Core.List.{[], ◌∷◌}
-use Rattle.vectors.specs.Hashes.{hashed, hash_from, hash_of, four_bytes}
+use Rattle.vectors.specs.Hashes.{hash_of, four_bytes}
 
 -- No bytes: 811c9dc5.
 pub hash_of_nothing : hash_of [] ≡ 2166136261
-unfolding hash_from
 hash_of_nothing = refl
 
 -- `a`: e40c292c.
 pub hash_of_a : hash_of (97 ∷ []) ≡ 3826002220
-unfolding hashed hash_from
 hash_of_a = refl
 
 -- `foobar`: bf9cf968.
 pub hash_of_foobar : hash_of (102 ∷ 111 ∷ 111 ∷ 98 ∷ 97 ∷ 114 ∷ []) ≡ 3214735720
-unfolding hashed hash_from
 hash_of_foobar = refl
 
 -- A number's bytes, lowest first.

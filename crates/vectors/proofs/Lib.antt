@@ -2,5 +2,4 @@
 pub mod Examples
 pub mod HashesLaws
 pub mod LinesLaws
-pub mod PartsLaws
 pub mod SheetsLaws

@@ -1,6 +1,7 @@
 -- The sheet that is filled is the table's.
 use mathlib.Core.Path.{◌≡◌, sym, subst}
 use mathlib.Core.List.{List}
+use Rattle.std.specs.Prelude.{Result, Ok, Err}
 use Prim.Native.Nat.{ℕ, ◌≤◌}
 use native.Mathlib.Omega.{arith}
 use lib.ListN.{length}
@@ -15,19 +16,17 @@ use Rattle.sheet.specs.Listings.{Filled}
 use Rattle.sheet.proofs.KnownLaws.{table_at_lem}
 use Rattle.matching.proofs.HeldLaws.{Read, read_bad}
 use Rattle.vectors.specs.Sheets.{SheetOf, entries, fault}
-use Rattle.vectors.specs.declared.sheets.SheetRead.{SheetRead}
-use Rattle.vectors.specs.declared.sheets.SheetRead.TheVariants.{Entries, Bad}
 
-pub sheet_filled : (s : List ℕ) (v : Sections) → Read s v → (before sheet order : List ℕ) (n : ℕ) → v.bindings.count ≤ length sheet → Filled (table_at s).names before sheet order n → SheetOf s sheet (Entries v.bindings.count)
+pub sheet_filled : (s : List ℕ) (v : Sections) → Read s v → (before sheet order : List ℕ) (n : ℕ) → v.bindings.count ≤ length sheet → Filled (table_at s).names before sheet order n → SheetOf s sheet (Ok v.bindings.count)
 sheet_filled s v read before sheet order n room f =
     let x : Exact (table_of read.laid).names sheet = subst (λ (t : Table). Exact t.names sheet) (table_at_lem s read.laid read.end read.table) f.exact in
     let y : length read.laid.bindings.records ≤ length sheet = subst (λ (v : Sections). v.bindings.count ≤ length sheet) (sym read.same) room in
-    subst (λ (v : Sections). SheetOf s sheet (Entries v.bindings.count)) read.same (entries read.laid read.end read.table y x)
+    subst (λ (v : Sections). SheetOf s sheet (Ok v.bindings.count)) read.same (entries read.laid read.end read.table y x)
 
-pub sheet_bad : (s sheet : List ℕ) (r : Loaded) (f : Fault) → r ≡ loaded_of (read_table s) → r ≡ loaded.Bad f → SheetOf s sheet (Bad f)
+pub sheet_bad : (s sheet : List ℕ) (r : Loaded) (f : Fault) → r ≡ loaded_of (read_table s) → r ≡ loaded.Bad f → SheetOf s sheet (Err f)
 sheet_bad s sheet r f e h = fault f (read_bad (read_table s) r f e h)
 
 -- The entries that are answered stand within the sheet.
-pub entries_within : (s sheet : List ℕ) (r : SheetRead) (n : ℕ) → SheetOf s sheet r → r ≡ Entries n → n ≤ length sheet
+pub entries_within : (s sheet : List ℕ) (r : Result ℕ Fault) (n : ℕ) → SheetOf s sheet r → r ≡ Ok n → n ≤ length sheet
 entries_within s sheet r n (entries l at e room x) h = let y : length l.bindings.records ≡ n = cc in omega (arith, y, room)
 entries_within s sheet r n (fault g e) h = let z : ◌≡◌ {A = ℕ} 0 1 = cc in absurd (omega arith)

@@ -1,5 +1,5 @@
 -- Hashes of byte strings: FNV-1a of 32 bits.
-use Rattle.std.specs.Prelude.{List, [], ◌∷◌, ℕ, ◌*◌, ◌/◌, ◌%◌, ◌^◌}
+use Rattle.std.specs.Prelude.{List, [], ◌∷◌, ℕ, ◌*◌, ◌/◌, ◌%◌, ◌^◌, fold}
 use Rattle.std.specs.Int.Bits.{bit_xor}
 use Rattle.records.specs.Many.{many_bytes}
 
@@ -8,13 +8,12 @@ abbrev pub hash_start : ℕ
 hash_start = 2166136261
 
 -- The hash with one byte more: exclusive or, then a product modulo 2 ^ 32.
-unfoldable pub hashed : ℕ → ℕ → ℕ
+abbrev pub hashed : ℕ → ℕ → ℕ
 hashed h b = bit_xor b h * 16777619 % 2 ^ 32
 
 -- The hash with these bytes more.
-unfoldable pub hash_from : ℕ → List ℕ → ℕ
-hash_from h [] = h
-hash_from h (b ∷ s) = hash_from (hashed h b) s
+abbrev pub hash_from : ℕ → List ℕ → ℕ
+hash_from h s = fold hashed h s
 
 abbrev pub hash_of : List ℕ → ℕ
 hash_of s = hash_from hash_start s

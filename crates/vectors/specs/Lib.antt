@@ -1,5 +1,4 @@
 -- What the answer lines say.
 pub mod Hashes
 pub mod Lines
-pub mod Parts
 pub mod Sheets

@@ -3,8 +3,8 @@ ghost use Rattle.std.specs.Prelude.{◌≡◌, ◌*◌, ◌≤◌, length, drop}
 ghost use Rattle.kernel.specs.Promises.{TellsDecision};
 ghost use Rattle.vectors.specs.Hashes.{hash_of, numbers_bytes};
 
-use crate::hashes::{hash_of, hash_of_numbers, wide, write_hash, write_hex};
-use crate::input::{Part, read_part};
+use crate::hashes::{hash_of, hash_of_numbers, write_hash, write_hex};
+use crate::input::{Stopped, read_part};
 use crate::lines::{end_line, write_answer};
 use kernel::answers::Answer;
 use kernel::rustamgheb_decide;
@@ -27,30 +27,19 @@ fn row_of(table: &[u8], request: &[u8], sheet: &mut [u32], derivation: &mut [u8]
     ensures fits { result.answer.length ≤ length derivation.old }
 {
     let answer = rustamgheb_decide(table, request, sheet, derivation);
-    let hash = hash_of_numbers(sheet);
-    let length = answer.length as usize;
-    let rest = hash_of(&derivation[length..]);
     Row {
-        answer: answer,
-        sheet: hash,
-        rest: rest,
+        answer,
+        sheet: hash_of_numbers(sheet),
+        rest: hash_of(&derivation[answer.length as usize..]),
     }
 }
 
-// The number that stands in these 4 bytes, lowest first.
-fn joined(first: u8, second: u8, third: u8, fourth: u8) -> u32 {
-    wide(first) + 256 * (wide(second) + 256 * (wide(third) + 256 * wide(fourth)))
-}
-
-// Reads numbers of 4 bytes each; there are as many as there is room for.
+// Reads numbers of 4 bytes each, lowest first; there are as many as there is room for.
 fn read_numbers(bytes: &[u8], numbers: &mut [u32])
     requires { 4 * length numbers.old ≤ length bytes.now }
 {
-    let mut i = 0;
-    while i < numbers.len() {
-        let at = 4 * i;
-        numbers[i] = joined(bytes[at], bytes[at + 1], bytes[at + 2], bytes[at + 3]);
-        i = i + 1;
+    for (number, four) in numbers.iter_mut().zip(bytes.as_chunks::<4>().0) {
+        *number = u32::from_le_bytes(*four);
     }
 }
 
@@ -58,61 +47,32 @@ fn read_numbers(bytes: &[u8], numbers: &mut [u32])
 fn write_row<W: Write>(out: &mut W, row: Row, derivation: &[u8])
     requires { row.answer.length ≤ length derivation.now }
 {
-    let answer = row.answer;
-    write_answer(out, answer);
+    write_answer(out, row.answer);
     write_hash(out, row.sheet);
     write_hash(out, row.rest);
-    let length = answer.length as usize;
+    let length = row.answer.length as usize;
     if length == 0 {
-        write_all(out, b" -");
+        let _ = write_all(out, b" -");
     } else {
         write_hex(out, &derivation[..length]);
     }
     end_line(out);
 }
 
-// Decides with a sheet that holds these bytes before, and writes the line.
-fn answer_with<W: Write>(
-    out: &mut W,
-    table: &[u8],
-    request: &[u8],
-    before: &[u8],
-    sheet: &mut [u32],
-    derivation: &mut [u8],
-)
-    requires { 4 * length sheet.old ≤ length before.now }
-{
+// Answers the case: decides with a sheet that holds the third part's numbers before, and writes the line.
+pub fn answer<R: Read, W: Write>(input: &mut R, out: &mut W) -> Result<(), Stopped> {
+    let mut first = large_buffer();
+    let table = read_part(input, &mut first)?;
+    let mut second = large_buffer();
+    let request = read_part(input, &mut second)?;
+    let mut third = [0; 4096];
+    let before = read_part(input, &mut third)?;
+    let mut fourth = large_buffer();
+    let derivation = read_part(input, &mut fourth)?;
+    let mut numbers = [0; 1024];
+    let sheet = &mut numbers[..before.len() / 4];
     read_numbers(before, sheet);
     let row = row_of(table, request, sheet, derivation);
     write_row(out, row, derivation);
-}
-
-// Answers the case, and says whether to go on.
-pub fn answer<R: Read, W: Write, E: Write>(input: &mut R, out: &mut W, errors: &mut E) -> bool {
-    let mut first = large_buffer();
-    let Part::Whole(table) = read_part(input, errors, &mut first) else {
-        return false;
-    };
-    let mut second = large_buffer();
-    let Part::Whole(request) = read_part(input, errors, &mut second) else {
-        return false;
-    };
-    let mut third = [0u8; 4096];
-    let Part::Whole(bytes) = read_part(input, errors, &mut third) else {
-        return false;
-    };
-    let mut fourth = large_buffer();
-    let Part::Whole(length) = read_part(input, errors, &mut fourth) else {
-        return false;
-    };
-    let mut numbers = [0u32; 1024];
-    answer_with(
-        out,
-        &first[..table],
-        &second[..request],
-        &third[..bytes],
-        &mut numbers[..bytes / 4],
-        &mut fourth[..length],
-    );
-    true
+    Ok(())
 }

@@ -8,68 +8,53 @@ use streams::{print_hex, write_all};
 // The hash of no bytes.
 const START: u32 = 2166136261;
 
-// The byte, as a wider number.
-pub fn wide(byte: u8) -> u32
-    ensures { result ≡ byte }
-{
-    byte as u32
-}
-
 // The hash with one byte more.
 fn hash_byte(hash: u32, byte: u8) -> u32
     ensures { result ≡ hashed hash byte }
 {
-    ((wide(byte) ^ hash) as u64 * 16777619 % 4294967296) as u32
+    (u32::from(byte) ^ hash).wrapping_mul(16777619)
+}
+
+// The hash with these bytes more.
+fn hash_from(hash: u32, bytes: &[u8]) -> u32
+    ensures { result ≡ hash_from hash bytes.now }
+{
+    bytes.iter().fold(hash, |hash, byte| hash_byte(hash, *byte))
 }
 
 // The hash of these bytes.
 pub fn hash_of(bytes: &[u8]) -> u32
     ensures { result ≡ hash_of bytes.now }
 {
-    let mut hash = START;
-    let mut i = 0;
-    while i < bytes.len() {
-        hash = hash_byte(hash, bytes[i]);
-        i = i + 1;
-    }
-    hash
+    hash_from(START, bytes)
 }
 
 // The hash with the 4 bytes of a number more.
 fn hash_number(hash: u32, number: u32) -> u32
     ensures { result ≡ hash_from hash (four_bytes number) }
 {
-    let first = hash_byte(hash, (number % 256) as u8);
-    let second = hash_byte(first, (number / 256 % 256) as u8);
-    let third = hash_byte(second, (number / 65536 % 256) as u8);
-    hash_byte(third, (number / 16777216) as u8)
+    hash_from(hash, &number.to_le_bytes())
 }
 
 // The hash of these numbers, each as 4 bytes, lowest first.
 pub fn hash_of_numbers(numbers: &[u32]) -> u32
     ensures { result ≡ hash_of (numbers_bytes numbers.now) }
 {
-    let mut hash = START;
-    let mut i = 0;
-    while i < numbers.len() {
-        hash = hash_number(hash, numbers[i]);
-        i = i + 1;
-    }
-    hash
+    numbers
+        .iter()
+        .fold(START, |hash, number| hash_number(hash, *number))
 }
 
 // Writes a further part of a line: the hash in 8 digits.
 pub fn write_hash<W: Write>(out: &mut W, hash: u32) {
-    write_all(out, b" ");
-    print_hex(out, hash as u64, 8);
+    let _ = write_all(out, b" ");
+    let _ = print_hex(out, u64::from(hash), 8);
 }
 
 // Writes a further part of a line: the bytes, each in 2 digits.
 pub fn write_hex<W: Write>(out: &mut W, bytes: &[u8]) {
-    write_all(out, b" ");
-    let mut i = 0;
-    while i < bytes.len() {
-        print_hex(out, wide(bytes[i]) as u64, 2);
-        i = i + 1;
+    let _ = write_all(out, b" ");
+    for byte in bytes {
+        let _ = print_hex(out, u64::from(*byte), 2);
     }
 }

@@ -4,6 +4,7 @@ ghost use Rattle.vectors.specs.Lines.{fault_line};
 
 use kernel::answers::{Answer, number_of};
 use records::faults::Fault;
+use std::fmt;
 use std::io::Write;
 use streams::{print_decimal, write_all};
 
@@ -16,63 +17,43 @@ pub enum Line {
     Five(u32, usize, usize, usize, usize),
 }
 
+impl fmt::Display for Line {
+    fn fmt<W: fmt::Write>(&self, f: &mut fmt::Formatter<W>) -> fmt::Result {
+        match self {
+            Line::One(a) => write!(f, "{a}"),
+            Line::Two(a, b) => write!(f, "{a} {b}"),
+            Line::Three(a, b, c) => write!(f, "{a} {b} {c}"),
+            Line::Five(a, b, c, d, e) => write!(f, "{a} {b} {c} {d} {e}"),
+        }
+    }
+}
+
 // The line of a fault: its number and its offset.
 pub fn fault_line(fault: Fault) -> Line
     ensures { result ≡ fault_line fault }
 {
-    let kind = fault.kind;
-    let place = fault.place;
-    Line::Two(number_of(kind), place.offset)
-}
-
-// Writes the first number of a line.
-fn write_first<W: Write>(out: &mut W, number: u32) {
-    print_decimal(out, number as u64);
-}
-
-// Writes a further number of a line.
-fn write_next<W: Write>(out: &mut W, number: usize) {
-    write_all(out, b" ");
-    print_decimal(out, number as u64);
-}
-
-// Ends the line.
-pub fn end_line<W: Write>(out: &mut W) {
-    write_all(out, b"\n");
+    Line::Two(number_of(fault.kind), fault.place.offset)
 }
 
 // Writes the line.
 pub fn write_line<W: Write>(out: &mut W, line: Line) {
-    match line {
-        Line::One(first) => {
-            write_first(out, first);
-        }
-        Line::Two(first, second) => {
-            write_first(out, first);
-            write_next(out, second);
-        }
-        Line::Three(first, second, third) => {
-            write_first(out, first);
-            write_next(out, second);
-            write_next(out, third);
-        }
-        Line::Five(first, second, third, fourth, fifth) => {
-            write_first(out, first);
-            write_next(out, second);
-            write_next(out, third);
-            write_next(out, fourth);
-            write_next(out, fifth);
-        }
-    }
-    end_line(out);
+    let _ = writeln!(out, "{line}");
+}
+
+// Ends the line.
+pub fn end_line<W: Write>(out: &mut W) {
+    let _ = write_all(out, b"\n");
 }
 
 // Writes the numbers of an answer: its number, offset, depth and length.
 pub fn write_answer<W: Write>(out: &mut W, answer: Answer) {
-    write_first(out, answer.number);
-    write_next(out, answer.offset as usize);
-    write_next(out, answer.depth as usize);
-    write_next(out, answer.length as usize);
+    let Answer {
+        number,
+        offset,
+        depth,
+        length,
+    } = answer;
+    let _ = write!(out, "{number} {offset} {depth} {length}");
 }
 
 // Writes the line of an answer.
@@ -81,18 +62,12 @@ pub fn write_answer_line<W: Write>(out: &mut W, answer: Answer) {
     end_line(out);
 }
 
-// Writes further numbers of a line.
-fn write_all_next<W: Write>(out: &mut W, numbers: &[u32]) {
-    let mut i = 0;
-    while i < numbers.len() {
-        write_next(out, numbers[i] as usize);
-        i = i + 1;
-    }
-}
-
 // Writes a line of a number and a row of numbers.
 pub fn write_row<W: Write>(out: &mut W, first: u32, numbers: &[u32]) {
-    write_first(out, first);
-    write_all_next(out, numbers);
+    let _ = print_decimal(out, u64::from(first));
+    for number in numbers {
+        let _ = write_all(out, b" ");
+        let _ = print_decimal(out, u64::from(*number));
+    }
     end_line(out);
 }

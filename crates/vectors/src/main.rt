@@ -1,7 +1,8 @@
 // vectors < CASES > LINES: the answer line of each case of a case file, in the file's order.
 #![tactic(auto)]
 
-use crate::input::stopped;
+use crate::input::Stopped;
+use crate::kinds::Kind;
 use crate::parts::{answer_one, answer_two};
 use std::io::{Read, Write};
 use streams::read_full;
@@ -14,6 +15,7 @@ mod input;
 mod key_decisions;
 mod key_requests;
 mod key_tables;
+mod kinds;
 mod lines;
 mod parts;
 mod requests;
@@ -21,45 +23,37 @@ mod sheets;
 mod tables;
 mod translations;
 
-// Answers a case of this kind, and says whether to go on.
-fn answer_case<R: Read, W: Write, E: Write>(
-    input: &mut R,
-    out: &mut W,
-    errors: &mut E,
-    kind: u8,
-) -> bool {
+// Answers a case of this kind.
+fn answer_case<R: Read, W: Write>(input: &mut R, out: &mut W, kind: Kind) -> Result<(), Stopped> {
     match kind {
-        1 => answer_one(input, out, errors, kind),
-        2 => answer_two(input, out, errors, kind),
-        3 => answer_one(input, out, errors, kind),
-        4 => answer_one(input, out, errors, kind),
-        5 => answer_one(input, out, errors, kind),
-        6 => answer_one(input, out, errors, kind),
-        10 => decisions::answer(input, out, errors),
-        11 => checks::answer(input, out, errors),
-        12 => answer_two(input, out, errors, kind),
-        13 => answer_two(input, out, errors, kind),
-        _ => stopped(errors, b"no such kind"),
+        Kind::Table => answer_one(input, out, tables::answer),
+        Kind::Request => answer_two(input, out, requests::answer),
+        Kind::Derivation => answer_one(input, out, derivations::answer),
+        Kind::KeyTable => answer_one(input, out, key_tables::answer),
+        Kind::KeyRequest => answer_one(input, out, key_requests::answer),
+        Kind::Sheet => answer_one(input, out, sheets::answer),
+        Kind::Decision => decisions::answer(input, out),
+        Kind::Check => checks::answer(input, out),
+        Kind::Translation => answer_two(input, out, translations::answer),
+        Kind::KeyDecision => answer_two(input, out, key_decisions::answer),
     }
 }
 
-// Answers the next case, if there is one, and says whether to go on.
-fn answer_next<R: Read, W: Write, E: Write>(input: &mut R, out: &mut W, errors: &mut E) -> bool {
-    let mut kind = [0u8; 1];
-    let got = read_full(input, &mut kind);
-    if got == 0 {
-        return false;
+// Answers the cases up to the end of the input. A proved loop has to end, and nothing says that the input does: the turns are counted.
+fn answer_all<R: Read, W: Write>(input: &mut R, out: &mut W) -> Result<(), Stopped> {
+    for _ in 0..u64::MAX {
+        let mut kind = [0];
+        if read_full(input, &mut kind) == 0 {
+            return Ok(());
+        }
+        answer_case(input, out, Kind::try_from(kind[0])?)?;
     }
-    answer_case(input, out, errors, kind[0])
+    Ok(())
 }
 
-// A proved loop has to end, and nothing says that the input does: the turns count down from a number that no input uses up.
+// What cannot be written is left out, and the program goes on.
 fn main(rt: HostRuntime) {
-    let mut input = rt.stdin();
-    let mut out = rt.stdout();
-    let mut errors = rt.stderr();
-    let mut turns = u64::MAX;
-    while turns > 0 && answer_next(&mut input, &mut out, &mut errors) {
-        turns -= 1;
+    if let Err(reason) = answer_all(&mut rt.stdin(), &mut rt.stdout()) {
+        let _ = eprintln!(rt; "vectors: {reason}");
     }
 }

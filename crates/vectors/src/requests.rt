@@ -15,8 +15,7 @@ fn line_of(bytes: &[u8], request: &[u8]) -> Line
 {
     match load(bytes) {
         Loaded::Good(sections) => {
-            let spaces = sections.spaces;
-            match read_request(request, spaces.count) {
+            match read_request(request, sections.spaces.count) {
                 RequestRead::Request(_) => Line::One(DONE),
                 RequestRead::Not => Line::One(WRONG_REQUEST),
             }
@@ -26,6 +25,6 @@ fn line_of(bytes: &[u8], request: &[u8]) -> Line
 }
 
 // Answers the case.
-pub fn answer<W: Write>(out: &mut W, table: &[u8], request: &[u8]) {
+pub fn answer<W: Write>(out: &mut W, table: &[u8], request: &mut [u8]) {
     write_line(out, line_of(table, request));
 }

@@ -10,15 +10,8 @@ use sheet::filling::fill;
 use std::io::Write;
 use table::{Loaded, load_index};
 
-// How many entries the sheet of a table has, or the table's fault.
-#[derive(Clone, Copy)]
-pub enum SheetRead {
-    Entries(usize),
-    Bad(Fault),
-}
-
-// Reads the table and fills its sheet.
-fn fill_sheet(table: &[u8], sheet: &mut [u32], order: &mut [u16]) -> SheetRead
+// Reads the table and fills its sheet: how many entries it has, or the table's fault.
+fn fill_sheet(table: &[u8], sheet: &mut [u32], order: &mut [u16]) -> Result<usize, Fault>
     requires { (most_bindings ≤ length sheet.old) × (most_bindings ≤ length order.old) }
     ensures { SheetOf table.now sheet.new result }
 {
@@ -37,20 +30,19 @@ fn fill_sheet(table: &[u8], sheet: &mut [u32], order: &mut [u16]) -> SheetRead
         &mut delegations,
     ) {
         Loaded::Good(sections) => {
-            let spaces = sections.spaces;
-            let bound = sections.bindings;
+            let count = sections.bindings.count;
             fill(
                 table,
-                &keys[..spaces.count],
-                &names[..bound.count],
+                &keys[..sections.spaces.count],
+                &names[..count],
                 &bindings,
                 sheet,
                 order,
                 &mut waits,
             );
-            SheetRead::Entries(bound.count)
+            Ok(count)
         }
-        Loaded::Bad(fault) => SheetRead::Bad(fault),
+        Loaded::Bad(fault) => Err(fault),
     }
 }
 
@@ -59,7 +51,7 @@ pub fn answer<W: Write>(out: &mut W, table: &[u8]) {
     let mut sheet = [7u32; 256];
     let mut order = [0u16; 256];
     match fill_sheet(table, &mut sheet, &mut order) {
-        SheetRead::Entries(count) => write_row(out, DONE, &sheet[..count]),
-        SheetRead::Bad(fault) => write_line(out, fault_line(fault)),
+        Ok(count) => write_row(out, DONE, &sheet[..count]),
+        Err(fault) => write_line(out, fault_line(fault)),
     }
 }

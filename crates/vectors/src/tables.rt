@@ -13,19 +13,13 @@ fn line_of(bytes: &[u8]) -> Line
     ensures { result ≡ table_line (read_table bytes.now) }
 {
     match load(bytes) {
-        Loaded::Good(sections) => {
-            let spaces = sections.spaces;
-            let bindings = sections.bindings;
-            let accesses = sections.accesses;
-            let delegations = sections.delegations;
-            Line::Five(
-                DONE,
-                spaces.count,
-                bindings.count,
-                accesses.count,
-                delegations.count,
-            )
-        }
+        Loaded::Good(sections) => Line::Five(
+            DONE,
+            sections.spaces.count,
+            sections.bindings.count,
+            sections.accesses.count,
+            sections.delegations.count,
+        ),
         Loaded::Bad(fault) => fault_line(fault),
     }
 }

@@ -21,18 +21,16 @@ fn row_of(table: &[u8], buffer: &mut [u8]) -> Row
     ensures { TellsTranslation table.now buffer.old result.answer buffer.new × (result.buffer ≡ hash_of buffer.new) }
 {
     let answer = rustamgheb_translate(table, buffer);
-    let hash = hash_of(buffer);
     Row {
-        answer: answer,
-        buffer: hash,
+        answer,
+        buffer: hash_of(buffer),
     }
 }
 
 // Answers the case.
 pub fn answer<W: Write>(out: &mut W, table: &[u8], buffer: &mut [u8]) {
     let row = row_of(table, buffer);
-    let answer = row.answer;
-    write_answer(out, answer);
+    write_answer(out, row.answer);
     write_hash(out, row.buffer);
     end_line(out);
 }

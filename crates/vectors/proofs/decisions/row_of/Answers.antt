@@ -12,10 +12,8 @@ slice_bounds-hash_of-count c = omega (arith, derivation_written c.rustamgheb_dec
 pub slice_bounds-hash_of-start : goal.slice_bounds-hash_of-start
 slice_bounds-hash_of-start c = omega (arith, derivation_written c.rustamgheb_decide-answer.ensures)
 
-pub returns : goal.returns
-returns c = record {
-  tells_decision = c.rustamgheb_decide-answer.ensures;
-  sheet = c.hash_of_numbers-hash.ensures;
-  rest = c.hash_of-rest.ensures ∙ ap hash_of (rest_of c.rustamgheb_decide-answer.new.derivation c.rustamgheb_decide-answer.result.length);
-  fits = derivation_written c.rustamgheb_decide-answer.ensures;
-}
+pub returns-clause-rest : goal.returns-clause-rest
+returns-clause-rest c = c.hash_of.ensures ∙ ap hash_of (rest_of c.rustamgheb_decide-answer.new.derivation c.rustamgheb_decide-answer.result.length)
+
+pub returns-clause-fits : goal.returns-clause-fits
+returns-clause-fits c = derivation_written c.rustamgheb_decide-answer.ensures
