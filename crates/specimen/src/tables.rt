@@ -2,6 +2,8 @@
 ghost use Rattle.std.specs.Prelude.{◌≡◌, ◌<◌, ◌≤◌, set};
 ghost use Rattle.demands.specs.Rows.{T};
 
+use std::array;
+
 // The bytes of T: the version and the spaces, the bindings, the access records, the delegation.
 pub fn specimen_table() -> [u8; 59]
     ensures { result ≡ T }
@@ -28,27 +30,21 @@ fn byte_at(more: usize, at: usize) -> u8
 {
     let table = specimen_table();
     if at == 1 {
-        return (3 + more) as u8;
+        (3 + more) as u8
+    } else if at < 5 {
+        table[at]
+    } else if at < 5 + more {
+        (26 + at) as u8
+    } else if at < 59 + more {
+        table[at - more]
+    } else {
+        0
     }
-    if at < 5 {
-        return table[at];
-    }
-    if at < 5 + more {
-        return (26 + at) as u8;
-    }
-    if at < 59 + more {
-        return table[at - more];
-    }
-    0
 }
 
-// Writes T with so many spaces more; what stands behind its end is 0.
-pub fn fill_table(more: usize, table: &mut [u8])
+// T with so many spaces more; what stands behind its end is 0.
+pub fn with_spaces<const N: usize>(more: usize) -> [u8; N]
     requires { more ≤ 62 }
 {
-    let mut i = 0;
-    while i < table.len() {
-        table[i] = byte_at(more, i);
-        i = i + 1;
-    }
+    array::from_fn(|at| byte_at(more, at))
 }

@@ -1,2 +1,0 @@
--- The digits.
-mod DigitsLaws
