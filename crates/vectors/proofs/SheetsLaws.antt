@@ -5,8 +5,10 @@ use Rattle.std.specs.Prelude.{Result, Ok, Err}
 use Prim.Native.Nat.{ℕ, ◌≤◌}
 use native.Mathlib.Omega.{arith}
 use lib.ListN.{length}
+use Rattle.rules.specs.Ranges.{most_bindings, most_spaces}
 use Rattle.rules.specs.Sheets.{Exact}
 use Rattle.rules.specs.Tables.{Table}
+use Rattle.wire.specs.Number.{Bytes}
 use Rattle.records.specs.declared.faults.Fault.{Fault}
 use Rattle.table.specs.ReadTable.{table_of, table_at, read_table, loaded_of}
 use Rattle.table.specs.declared.Sections.{Sections}
@@ -14,8 +16,17 @@ use Rattle.table.specs.declared.Loaded.{Loaded}
 use Rattle.table.specs.declared.Loaded.TheVariants as loaded
 use Rattle.sheet.specs.Listings.{Filled}
 use Rattle.sheet.proofs.KnownLaws.{table_at_lem}
-use Rattle.matching.proofs.HeldLaws.{Read, read_bad}
+use Rattle.matching.proofs.HeldLaws.{Read, read_bad, read_table_lem, few_spaces_read, few_bindings_read}
 use Rattle.vectors.specs.Sheets.{SheetOf, entries, fault}
+
+-- A table that is read has few spaces and bindings.
+pub record Few (s : List ℕ) (v : Sections) : Type 0 where
+  pub read : Read s v
+  pub spaces : v.spaces.count ≤ most_spaces
+  pub bindings : v.bindings.count ≤ most_bindings
+
+pub few_read : (s : List ℕ) → Bytes s → (r : Loaded) (v : Sections) → r ≡ loaded_of (read_table s) → r ≡ loaded.Good v → Few s v
+few_read s b r v e h = let read = read_table_lem s r v e h in record { read = read; spaces = few_spaces_read s b v read; bindings = few_bindings_read s b v read }
 
 pub sheet_filled : (s : List ℕ) (v : Sections) → Read s v → (before sheet order : List ℕ) (n : ℕ) → v.bindings.count ≤ length sheet → Filled (table_at s).names before sheet order n → SheetOf s sheet (Ok v.bindings.count)
 sheet_filled s v read before sheet order n room f =
