@@ -7,8 +7,7 @@ ghost use Rattle.std.specs.Fmt.{decimal};
 ghost use Rattle.streams.specs.Counts.{IsPrefixLen};
 ghost use Rattle.streams.specs.Digits.{padded_hex};
 
-use std::io;
-use std::io::{Read, Write};
+use std::io::{self, Read, Write};
 
 // 65,536 zeros: room for a file, or for a part of a case.
 pub fn large_buffer() -> [u8; 65536]
