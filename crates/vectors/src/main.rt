@@ -34,7 +34,7 @@ fn answer_case<R: Read, W: Write>(input: &mut R, out: &mut W, kind: Kind) -> Res
         Kind::Sheet => answer_one(input, out, sheets::answer),
         Kind::Decision => decisions::answer(input, out),
         Kind::Check => checks::answer(input, out),
-        Kind::Translation => answer_two(input, out, translations::answer),
+        Kind::Translation => translations::answer(input, out),
         Kind::KeyDecision => answer_two(input, out, key_decisions::answer),
     }
 }

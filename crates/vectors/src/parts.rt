@@ -1,4 +1,4 @@
-// Cases of one part and of two parts.
+// Cases of one part, and of a table and a request.
 use crate::input::{Stopped, read_part};
 use std::io::{Read, Write};
 use streams::large_buffer;
@@ -17,8 +17,8 @@ pub fn answer_one<R: Read, W: Write, F: FnOnce(&mut W, &[u8])>(
     Ok(())
 }
 
-// Reads a case of two parts, the first of which is a table, and answers it.
-pub fn answer_two<R: Read, W: Write, F: FnOnce(&mut W, &[u8], &mut [u8])>(
+// Reads a case of a table and a request, and answers it.
+pub fn answer_two<R: Read, W: Write, F: FnOnce(&mut W, &[u8], &[u8])>(
     input: &mut R,
     out: &mut W,
     answer: F,
@@ -28,7 +28,7 @@ pub fn answer_two<R: Read, W: Write, F: FnOnce(&mut W, &[u8], &mut [u8])>(
     let mut first = large_buffer();
     let table = read_part(input, &mut first)?;
     let mut second = large_buffer();
-    let other = read_part(input, &mut second)?;
-    answer(out, table, other);
+    let request = read_part(input, &mut second)?;
+    answer(out, table, request);
     Ok(())
 }

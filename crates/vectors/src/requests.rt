@@ -14,17 +14,15 @@ fn line_of(bytes: &[u8], request: &[u8]) -> Line
     ensures { result ≡ request_line (read_table bytes.now) request.now }
 {
     match load(bytes) {
-        Loaded::Good(sections) => {
-            match read_request(request, sections.spaces.count) {
-                RequestRead::Request(_) => Line::One(DONE),
-                RequestRead::Not => Line::One(WRONG_REQUEST),
-            }
-        }
+        Loaded::Good(sections) => match read_request(request, sections.spaces.count) {
+            RequestRead::Request(_) => Line::One(DONE),
+            RequestRead::Not => Line::One(WRONG_REQUEST),
+        },
         Loaded::Bad(fault) => fault_line(fault),
     }
 }
 
 // Answers the case.
-pub fn answer<W: Write>(out: &mut W, table: &[u8], request: &mut [u8]) {
+pub fn answer<W: Write>(out: &mut W, table: &[u8], request: &[u8]) {
     write_line(out, line_of(table, request));
 }

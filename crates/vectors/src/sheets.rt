@@ -15,12 +15,12 @@ fn fill_sheet(table: &[u8], sheet: &mut [u32], order: &mut [u16]) -> Result<usiz
     requires { (most_bindings ≤ length sheet.old) × (most_bindings ≤ length order.old) }
     ensures { SheetOf table.now sheet.new result }
 {
-    let mut keys = [0u32; 64];
-    let mut names = [0u32; 256];
-    let mut bindings = [0u16; 256];
-    let mut accesses = [0u16; 256];
-    let mut delegations = [0u16; 512];
-    let mut waits = [0u32; 256];
+    let mut keys = [0; 64];
+    let mut names = [0; 256];
+    let mut bindings = [0; 256];
+    let mut accesses = [0; 256];
+    let mut delegations = [0; 512];
+    let mut waits = [0; 256];
     match load_index(
         table,
         &mut keys,
@@ -48,8 +48,8 @@ fn fill_sheet(table: &[u8], sheet: &mut [u32], order: &mut [u16]) -> Result<usiz
 
 // Answers the case.
 pub fn answer<W: Write>(out: &mut W, table: &[u8]) {
-    let mut sheet = [7u32; 256];
-    let mut order = [0u16; 256];
+    let mut sheet = [7; 256];
+    let mut order = [0; 256];
     match fill_sheet(table, &mut sheet, &mut order) {
         Ok(count) => write_row(out, DONE, &sheet[..count]),
         Err(fault) => write_line(out, fault_line(fault)),

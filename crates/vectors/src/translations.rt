@@ -4,10 +4,12 @@ ghost use Rattle.kernel.specs.Promises.{TellsTranslation};
 ghost use Rattle.vectors.specs.Hashes.{hash_of};
 
 use crate::hashes::{hash_of, write_hash};
+use crate::input::{Stopped, read_part};
 use crate::lines::{end_line, write_answer};
 use kernel::answers::Answer;
 use kernel::rustamgheb_translate;
-use std::io::Write;
+use std::io::{Read, Write};
+use streams::large_buffer;
 
 // What the line says: the answer, and the hash of the whole buffer.
 #[derive(Clone, Copy)]
@@ -28,9 +30,14 @@ fn row_of(table: &[u8], buffer: &mut [u8]) -> Row
 }
 
 // Answers the case.
-pub fn answer<W: Write>(out: &mut W, table: &[u8], buffer: &mut [u8]) {
+pub fn answer<R: Read, W: Write>(input: &mut R, out: &mut W) -> Result<(), Stopped> {
+    let mut first = large_buffer();
+    let table = read_part(input, &mut first)?;
+    let mut second = large_buffer();
+    let buffer = read_part(input, &mut second)?;
     let row = row_of(table, buffer);
     write_answer(out, row.answer);
     write_hash(out, row.buffer);
     end_line(out);
+    Ok(())
 }
