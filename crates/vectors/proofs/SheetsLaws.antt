@@ -1,41 +1,33 @@
 -- The sheet that is filled is the table's.
-use mathlib.Core.Path.{◌≡◌, sym, subst}
+use mathlib.Core.Path.{◌≡◌, sym, ◌∙◌, ap, subst}
 use mathlib.Core.List.{List}
-use Rattle.std.specs.Prelude.{Result, Ok, Err}
 use Prim.Native.Nat.{ℕ, ◌≤◌}
 use native.Mathlib.Omega.{arith}
 use lib.ListN.{length}
-use Rattle.rules.specs.Ranges.{most_bindings, most_spaces}
+use Rattle.std.specs.Prelude.{Result, Ok, Err, IsErrAnd}
+use Rattle.std.proofs.lemmas.Result.{err_from_is_err_and}
+use Rattle.rules.specs.Ranges.{most_bindings}
 use Rattle.rules.specs.Sheets.{Exact}
 use Rattle.rules.specs.Tables.{Table}
-use Rattle.wire.specs.Number.{Bytes}
 use Rattle.records.specs.declared.faults.Fault.{Fault}
-use Rattle.table.specs.ReadTable.{table_of, table_at, read_table, loaded_of}
-use Rattle.table.specs.declared.Sections.{Sections}
-use Rattle.table.specs.declared.Loaded.{Loaded}
-use Rattle.table.specs.declared.Loaded.TheVariants as loaded
+use Rattle.table.specs.ReadTable.{table_of, table_at}
 use Rattle.sheet.specs.Listings.{Filled}
 use Rattle.sheet.proofs.KnownLaws.{table_at_lem}
-use Rattle.matching.proofs.HeldLaws.{Read, read_bad, read_table_lem, few_spaces_read, few_bindings_read}
+use Rattle.sheet.proofs.MeaningLaws.{index_bindings}
+use Rattle.matching.specs.Opening.{Opens}
+use Rattle.matching.specs.declared.good.Good.{Good}
 use Rattle.vectors.specs.Sheets.{SheetOf, entries, fault}
 
--- A table that is read has few spaces and bindings.
-pub record Few (s : List ℕ) (v : Sections) : Type 0 where
-  pub read : Read s v
-  pub spaces : v.spaces.count ≤ most_spaces
-  pub bindings : v.bindings.count ≤ most_bindings
+pub sheet_filled : (s : List ℕ) (g : Good) → Opens s (Ok g) → (before sheet order : List ℕ) (n : ℕ) → most_bindings ≤ length sheet
+    → Filled (table_at g.names.table.now).names before sheet order n → SheetOf s sheet (Ok (length g.names.packed.now))
+sheet_filled s g (same, (l, end, read)) before sheet order n room f =
+    let at : table_at g.names.table.now ≡ table_of l = ap table_at same ∙ table_at_lem s l end read in
+    let x : Exact (table_of l).names sheet = subst (λ (t : Table). Exact t.names sheet) at f.exact in
+    let count : length l.bindings.records ≡ length g.names.packed.now = sym (ap (λ (t : Table). length t.names.bindings) at) ∙ index_bindings _ _ _ g.names.known.index in
+    subst (λ (n : ℕ). SheetOf s sheet (Ok n)) count (entries l end read (omega (arith, count, room, g.names.known.few_bindings)) x)
 
-pub few_read : (s : List ℕ) → Bytes s → (r : Loaded) (v : Sections) → r ≡ loaded_of (read_table s) → r ≡ loaded.Good v → Few s v
-few_read s b r v e h = let read = read_table_lem s r v e h in record { read = read; spaces = few_spaces_read s b v read; bindings = few_bindings_read s b v read }
-
-pub sheet_filled : (s : List ℕ) (v : Sections) → Read s v → (before sheet order : List ℕ) (n : ℕ) → v.bindings.count ≤ length sheet → Filled (table_at s).names before sheet order n → SheetOf s sheet (Ok v.bindings.count)
-sheet_filled s v read before sheet order n room f =
-    let x : Exact (table_of read.laid).names sheet = subst (λ (t : Table). Exact t.names sheet) (table_at_lem s read.laid read.end read.table) f.exact in
-    let y : length read.laid.bindings.records ≤ length sheet = subst (λ (v : Sections). v.bindings.count ≤ length sheet) (sym read.same) room in
-    subst (λ (v : Sections). SheetOf s sheet (Ok v.bindings.count)) read.same (entries read.laid read.end read.table y x)
-
-pub sheet_bad : (s sheet : List ℕ) (r : Loaded) (f : Fault) → r ≡ loaded_of (read_table s) → r ≡ loaded.Bad f → SheetOf s sheet (Err f)
-sheet_bad s sheet r f e h = fault f (read_bad (read_table s) r f e h)
+pub sheet_bad : (s sheet : List ℕ) (r : Result ℕ Fault) (f : Fault) → Opens s (Err f) → IsErrAnd r (λ d. d ≡ f) → SheetOf s sheet r
+sheet_bad s sheet r f read h = let q = err_from_is_err_and r h in rw (q.1, q.2) (fault f read)
 
 -- The entries that are answered stand within the sheet.
 pub entries_within : (s sheet : List ℕ) (r : Result ℕ Fault) (n : ℕ) → SheetOf s sheet r → r ≡ Ok n → n ≤ length sheet

@@ -5,7 +5,7 @@ ghost use Rattle.vectors.specs.Lines.{derivation_line};
 
 use crate::lines::{Line, write_line};
 use kernel::answers::{DONE, NOT_A_DERIVATION};
-use records::derivations::{DerivationRead, read_derivation};
+use records::derivations::read_derivation;
 use std::io::Write;
 
 // The line of a derivation: how many bindings it lists and how many records its chain has.
@@ -13,12 +13,8 @@ fn line_of(bytes: &[u8]) -> Line
     ensures { result ≡ derivation_line (read_derivation bytes.now) }
 {
     match read_derivation(bytes) {
-        DerivationRead::Derivation(parts) => Line::Three(
-            DONE,
-            parts.bindings,
-            parts.delegations + 1,
-        ),
-        DerivationRead::Not => Line::One(NOT_A_DERIVATION),
+        Some(parts) => Line::Three(DONE, parts.bindings, parts.delegations + 1),
+        None => Line::One(NOT_A_DERIVATION),
     }
 }
 

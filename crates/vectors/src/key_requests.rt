@@ -5,7 +5,7 @@ ghost use Rattle.vectors.specs.Lines.{key_request_line};
 
 use crate::lines::{Line, write_line};
 use kernel::answers::{DONE, WRONG_REQUEST};
-use records::requests::{KeyRequestRead, read_key_request};
+use records::requests::read_key_request;
 use std::io::Write;
 
 // The line of a key request: whether it is good.
@@ -13,8 +13,8 @@ fn line_of(bytes: &[u8]) -> Line
     ensures { result ≡ key_request_line (read_key_request bytes.now) }
 {
     match read_key_request(bytes) {
-        KeyRequestRead::KeyRequest(_) => Line::One(DONE),
-        KeyRequestRead::Not => Line::One(WRONG_REQUEST),
+        Some(_) => Line::One(DONE),
+        None => Line::One(WRONG_REQUEST),
     }
 }
 

@@ -5,7 +5,7 @@ ghost use Rattle.vectors.specs.Lines.{key_table_line};
 
 use crate::lines::{Line, fault_line, write_line};
 use kernel::answers::DONE;
-use keytable::{KeyLoaded, load_key_table};
+use keytable::load_key_table;
 use std::io::Write;
 
 // The line of a key table: how many records of each kind it has, or its fault.
@@ -13,12 +13,12 @@ fn line_of(bytes: &[u8]) -> Line
     ensures { result ≡ key_table_line (read_key_table bytes.now) }
 {
     match load_key_table(bytes) {
-        KeyLoaded::Good(sections) => Line::Three(
+        Ok(sections) => Line::Three(
             DONE,
             sections.accesses.count,
             sections.delegations.count,
         ),
-        KeyLoaded::Bad(fault) => fault_line(fault),
+        Err(fault) => fault_line(fault),
     }
 }
 

@@ -1,4 +1,6 @@
 // The kinds of cases, by their numbers in a case file.
+ghost use Rattle.vectors.specs.Kinds.{KindOf};
+
 use crate::input::Stopped;
 
 // What a case asks for.
@@ -18,6 +20,8 @@ pub enum Kind {
 
 impl TryFrom<u8> for Kind {
     type Error = Stopped;
+
+    ghost try_from_gives = { KindOf };
 
     fn try_from(number: u8) -> Result<Kind, Stopped> {
         match number {

@@ -5,20 +5,20 @@ ghost use Rattle.vectors.specs.Lines.{request_line};
 
 use crate::lines::{Line, fault_line, write_line};
 use kernel::answers::{DONE, WRONG_REQUEST};
-use records::requests::{RequestRead, read_request};
+use records::requests::read_request;
 use std::io::Write;
-use table::{Loaded, load};
+use table::load;
 
 // The line of a request: the table's fault, or whether the request is good.
 fn line_of(bytes: &[u8], request: &[u8]) -> Line
     ensures { result ≡ request_line (read_table bytes.now) request.now }
 {
     match load(bytes) {
-        Loaded::Good(sections) => match read_request(request, sections.spaces.count) {
-            RequestRead::Request(_) => Line::One(DONE),
-            RequestRead::Not => Line::One(WRONG_REQUEST),
+        Ok(sections) => match read_request(request, sections.spaces.count) {
+            Some(_) => Line::One(DONE),
+            None => Line::One(WRONG_REQUEST),
         },
-        Loaded::Bad(fault) => fault_line(fault),
+        Err(fault) => fault_line(fault),
     }
 }
 

@@ -6,21 +6,21 @@ ghost use Rattle.vectors.specs.Lines.{table_line};
 use crate::lines::{Line, fault_line, write_line};
 use kernel::answers::DONE;
 use std::io::Write;
-use table::{Loaded, load};
+use table::load;
 
 // The line of a table: how many records of each kind it has, or its fault.
 fn line_of(bytes: &[u8]) -> Line
     ensures { result ≡ table_line (read_table bytes.now) }
 {
     match load(bytes) {
-        Loaded::Good(sections) => Line::Five(
+        Ok(sections) => Line::Five(
             DONE,
             sections.spaces.count,
             sections.bindings.count,
             sections.accesses.count,
             sections.delegations.count,
         ),
-        Loaded::Bad(fault) => fault_line(fault),
+        Err(fault) => fault_line(fault),
     }
 }
 
