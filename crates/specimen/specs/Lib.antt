@@ -1,2 +1,3 @@
--- How a byte is written.
+-- How a byte is written, and tables with other spaces.
 pub mod Digits
+pub mod Tables

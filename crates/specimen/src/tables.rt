@@ -1,6 +1,7 @@
 // The specimen table, T, and tables that differ from it in one thing.
-ghost use Rattle.std.specs.Prelude.{◌≡◌, ◌<◌, ◌≤◌, set};
+ghost use Rattle.std.specs.Prelude.{◌≡◌, ℕ, ◌<◌, ◌≤◌, get_or, set};
 ghost use Rattle.demands.specs.Rows.{T};
+ghost use Rattle.specimen.specs.Tables.{T_with_spaces};
 
 use std::array;
 
@@ -27,6 +28,7 @@ pub fn with_byte(at: usize, byte: u8) -> [u8; 59]
 // The byte at this place of T with so many spaces more, which have the keys from 31 on; 0 behind its end.
 fn byte_at(more: usize, at: usize) -> u8
     requires { more ≤ 62 }
+    ensures { result ≡ get_or (T_with_spaces more) at 0 }
 {
     let table = specimen_table();
     if at == 1 {
@@ -45,6 +47,7 @@ fn byte_at(more: usize, at: usize) -> u8
 // T with so many spaces more; what stands behind its end is 0.
 pub fn with_spaces<const N: usize>(more: usize) -> [u8; N]
     requires { more ≤ 62 }
+    ensures { (i : ℕ) → i < N → get_or result i 0 ≡ get_or (T_with_spaces more) i 0 }
 {
     array::from_fn(|at| byte_at(more, at))
 }

@@ -1,0 +1,2 @@
+-- Laws of tables with other spaces.
+pub mod TablesLaws
