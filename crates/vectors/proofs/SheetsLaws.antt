@@ -28,8 +28,3 @@ sheet_filled s g (same, (l, end, read)) before sheet order n room f =
 
 pub sheet_bad : (s sheet : List ℕ) (r : Result ℕ Fault) (f : Fault) → Opens s (Err f) → IsErrAnd r (λ d. d ≡ f) → SheetOf s sheet r
 sheet_bad s sheet r f read h = let q = err_from_is_err_and r h in rw (q.1, q.2) (fault f read)
-
--- The entries that are answered stand within the sheet.
-pub entries_within : (s sheet : List ℕ) (r : Result ℕ Fault) (n : ℕ) → SheetOf s sheet r → r ≡ Ok n → n ≤ length sheet
-entries_within s sheet r n (entries l at e room x) h = let y : length l.bindings.records ≡ n = cc in omega (arith, y, room)
-entries_within s sheet r n (fault g e) h = let z : ◌≡◌ {A = ℕ} 0 1 = cc in absurd (omega arith)
