@@ -42,7 +42,7 @@ pub fn hold(
         parts.chain,
         parts.delegations,
     )?;
-    if last.to.0 != key.0 {
+    if last.to != key {
         return None;
     }
     Some(last)

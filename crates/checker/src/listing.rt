@@ -6,7 +6,7 @@ ghost use Rattle.checker.specs.Walks.{Blank, EntersAll};
 use records::fields::read_field;
 use sheet::names::Names;
 
-// Enters the bindings whose numbers stand from a place on; answers whether all could be entered.
+// Enters the bindings whose numbers stand from a place on; answers whether all could be entered. (An Option of nothing would be no plainer.)
 pub fn enter_listed(
     names: &Names<'_>,
     derivation: &[u8],

@@ -20,7 +20,7 @@ pub fn find_node(keys: &[u32], subject: Key, key: Key) -> Option<usize>
     match find_space(keys, key) {
         Some(space) => Some(space.0),
         None => {
-            if key.0 == subject.0 {
+            if key == subject {
                 Some(keys.len())
             } else {
                 None
@@ -78,6 +78,7 @@ pub fn give_all(
 }
 
 // One more delegation: an edge behind the `m` that there are, if it is between two nodes; answers how many there are then.
+// The count stands beside the row, for the rows are fixed: no heap.
 fn draw_one(
     good: &Good<'_>,
     sheet: &[u32],

@@ -25,7 +25,7 @@ fn size_of(number: u16) -> usize
     }
 }
 
-// How many bytes the numbers take.
+// How many bytes the numbers take. The library's `sum` was tried: the goal that nothing runs over did not close.
 fn size_of_all(numbers: &[u16]) -> usize
     requires { length numbers.now ≤ most_bindings }
     ensures { result ≡ length (many_bytes bytes_of numbers.now) }

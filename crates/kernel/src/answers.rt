@@ -3,10 +3,11 @@ ghost use Rattle.std.specs.Prelude.{◌≡◌};
 ghost use Rattle.kernel.specs.Answers.{fault_number, succeeded, bare, of_fault, of_decided, of_checked, of_translated, of_key_answer, Fits};
 
 use decision::Grant;
+use keytable::KeyRefusal;
 use records::faults::{Fault, Kind};
 use rules::Depth;
-use keytable::KeyRefusal;
 
+// The numbers stay plain: C gets them as they are.
 pub const DONE: u32 = 0;
 
 pub const WRONG_REQUEST: u32 = 8;
@@ -31,7 +32,7 @@ pub struct Answer {
     pub length: u32,
 }
 
-// The number of a fault of this kind.
+// The number of a fault of this kind. No From: both types are other crates'.
 pub fn number_of(kind: Kind) -> u32
     ensures { result ≡ fault_number kind }
 {
@@ -71,7 +72,7 @@ pub fn success(depth: u32, length: usize) -> Answer
     }
 }
 
-// A fault, with its offset.
+// A fault, with its offset. This and those below are no From: each asks that its answer fits, and a From may ask nothing.
 pub fn of_fault(fault: Fault) -> Answer
     requires { Fits (of_fault fault) }
     ensures { result ≡ of_fault fault }

@@ -12,6 +12,7 @@ use crate::nodes::KeyNodes;
 use records::requests::KeyRequest;
 
 // A key table, a request, and where those records stand that are for what it asks.
+// That they are kept is told in contracts and not in a ghost field: it says that a layout of the table exists, and a field would have to hold that layout.
 #[derive(Clone, Copy)]
 pub struct KeptTable<'a> {
     pub table: &'a [u8],

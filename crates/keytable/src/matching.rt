@@ -32,7 +32,8 @@ pub fn take_writer(request: KeyRequest, delegation: KeyDelegation, nodes: &mut K
     }
 }
 
-// Draws the edge of a delegation that matches and goes from a node to a node; answers how many there are then.
+// Draws the edge of a delegation that matches and goes from a node to a node; answers how many there are then. The
+// count stands beside the row, for the rows are fixed: no heap.
 pub fn take_delegation(
     request: KeyRequest,
     delegation: KeyDelegation,

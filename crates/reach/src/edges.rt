@@ -31,7 +31,7 @@ pub fn depth_of(edge: u32) -> u8
     (edge / 409600 % 16) as u8
 }
 
-// The number of the edge.
+// The number of the edge. (Edges are packed in numbers: the host lends rows of numbers, and the crates use no heap.)
 pub fn number_of(edge: u32) -> u16
     ensures { result ≡ number_of edge }
 {

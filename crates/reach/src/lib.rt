@@ -70,7 +70,8 @@ pub struct Trail {
     pub first: usize,
 }
 
-// Goes from a node that has a code back along the edges that gave the codes; their numbers stand at the end of `chain`, the first edge's first.
+// Goes from a node that has a code back along the edges that gave the codes; their numbers stand at the end of `chain`, the first edge's first. No iterator
+// goes this way: each edge names the node of the next.
 pub fn trace(
     edges: &[u32],
     start: &[u8],

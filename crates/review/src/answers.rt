@@ -2,7 +2,7 @@
 use crate::printing::say;
 use kernel::answers::{Answer, WRONG_REQUEST};
 
-// The name of an answer, and what it means in a sentence.
+// The name of an answer, and what it means in a sentence. The numbers are those that C gets.
 fn words_of(number: u32) -> (&'static str, &'static str) {
     match number {
         1 => ("Long", "the table is over its byte limit."),

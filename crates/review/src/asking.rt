@@ -23,7 +23,7 @@ pub fn ask(
     put_request(rt, buffer, first, end).ok_or(Trouble::NoRequest)
 }
 
-// The same for a key request.
+// The same for a key request. A function taken as a parameter would need a contract longer than what it saves.
 pub fn ask_by_keys(
     rt: &(impl Env + Files + Print),
     buffer: &mut [u8],

@@ -40,6 +40,7 @@ impl<'a> Names<'a> {
     }
 
     // Fills entry `i` if its target leads to a key, or else keeps what it waits for; answers how many are listed then.
+    // The count stands beside the row, for the rows are fixed: no heap.
     fn fill_entry(
         &self,
         sheet: &mut [u32],

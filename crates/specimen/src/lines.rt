@@ -55,7 +55,7 @@ fn write_refusal<W: fmt::Write>(f: &mut fmt::Formatter<W>, answer: Answer) -> fm
     }
 }
 
-// The hexadecimal digit of a number below 16.
+// The hexadecimal digit of a number below 16, a listed promise.
 fn digit(number: u8) -> u8
     requires { number < 16 }
     ensures { result ≡ digit_of number }

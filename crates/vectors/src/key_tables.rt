@@ -13,11 +13,7 @@ fn line_of(bytes: &[u8]) -> Line
     ensures { result ≡ key_table_line (read_key_table bytes.now) }
 {
     match load_key_table(bytes) {
-        Ok(sections) => Line::Three(
-            DONE,
-            sections.accesses.count,
-            sections.delegations.count,
-        ),
+        Ok(sections) => Line::Three(DONE, sections.accesses.count, sections.delegations.count),
         Err(fault) => fault_line(fault),
     }
 }
