@@ -19,7 +19,13 @@ pub fn mark_access(good: &Good<'_>, sheet: &[u32], marks: &mut [bool], i: usize)
     ensures { AccessMarked (table_at good.now.names.table.now) i marks.old marks.new }
 {
     let access = good.access(i);
-    mark_name(&good.names, sheet, marks, access.owner, access.path);
+    mark_name(
+        &good.names.lookup(),
+        sheet,
+        marks,
+        access.owner,
+        access.path,
+    );
 }
 
 // Marks the bindings that the paths of delegation number `j` go through.
@@ -30,8 +36,9 @@ pub fn mark_delegation(good: &Good<'_>, sheet: &[u32], marks: &mut [bool], j: us
 {
     let delegation = good.delegation(j);
     let writer = delegation.writer;
-    mark_name(&good.names, sheet, marks, writer, delegation.owner);
-    mark_name(&good.names, sheet, marks, writer, delegation.delegatee);
+    let lookup = good.names.lookup();
+    mark_name(&lookup, sheet, marks, writer, delegation.owner);
+    mark_name(&lookup, sheet, marks, writer, delegation.delegatee);
 }
 
 // Marks the bindings that the paths of the chain's delegations go through.
@@ -60,7 +67,7 @@ pub fn mark_all(
         × AllWritten (table_at good.now.names.table.now) chain.now }
     ensures { AllMarked (table_at good.now.names.table.now) (target_of subject) access chain.now order.now marks.new }
 {
-    mark_target(&good.names, sheet, marks, subject);
+    mark_target(&good.names.lookup(), sheet, marks, subject);
     mark_access(good, sheet, marks, access);
     mark_chain(good, sheet, marks, chain);
     mark_needed(&good.names, sheet, order, marks);

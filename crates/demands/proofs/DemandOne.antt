@@ -6,15 +6,12 @@ use native.Mathlib.Omega.{arith}
 use Rattle.std.specs.Prelude.{Ok, Err}
 use Rattle.records.specs.declared.faults.Kind.{Kind}
 use Rattle.records.specs.declared.faults.Kind.TheVariants as kind
-use Rattle.std.specs.Prelude.{Ok, Err}
 use Rattle.rules.specs.Tables.{Table}
 use Rattle.checker.specs.Promise.{Checked}
 use Rattle.checker.specs.declared.Refusal.TheVariants as not_checked
 use Rattle.checker.proofs.Theorems.{checks_one}
-use Rattle.decision.specs.Promise.{DecidesGood, bad_request, room, unnamed, denied, granted, overrun, Decides, bad_table, good_table}
-use Rattle.decision.specs.Promise.{Decided}
+use Rattle.decision.specs.Promise.{DecidesGood, bad_request, room, unnamed, denied, granted, overrun, Decides, bad_table, good_table, Decided}
 use Rattle.decision.specs.declared.Refusal.TheVariants as undecided
-use Rattle.std.specs.Prelude.{Ok, Err}
 use Rattle.decision.proofs.Theorems.{decision_one}
 use Rattle.keytable.specs.Deciding.{KeyAnswer}
 use Rattle.keytable.specs.declared.KeyRefusal.TheVariants as key_refusal

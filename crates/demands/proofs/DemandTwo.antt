@@ -26,10 +26,8 @@ use Rattle.records.proofs.RequestsForm.{whole_form}
 use Rattle.table.specs.ReadTable.{Laid as LaidTable, table_of}
 use Rattle.table.proofs.Theorems.{table_form}
 use Rattle.checker.specs.Promise.{Checked, ChecksGood, bad_request, not_derivation, accepted, Checks, bad_table, good_table}
-use Rattle.decision.specs.Promise.{DecidesGood, Decides}
+use Rattle.decision.specs.Promise.{DecidesGood, Decides, Decided}
 use Rattle.decision.specs.Promise as promise
-use Rattle.decision.specs.Promise.{Decided}
-use Rattle.std.specs.Prelude.{Ok}
 use Rattle.demands.specs.DemandTwo.{Accepted, GrantedExactly, HoldsHere, DemandTwo}
 use Rattle.demands.proofs.OutcomeLaws.{Outcome, yes, no, outcome, same_depth, same_length}
 

@@ -41,11 +41,9 @@ use Rattle.table.proofs.Theorems.{table_form, key_table_form}
 use Rattle.checker.specs.Promise.{Checked, ChecksGood, Checks}
 use Rattle.checker.specs.Promise as checks
 use Rattle.checker.specs.declared.Refusal.TheVariants as not_checked
-use Rattle.decision.specs.Promise.{sheet_size, Ready, DecidesGood, Decides}
+use Rattle.decision.specs.Promise.{sheet_size, Ready, DecidesGood, Decides, Decided}
 use Rattle.decision.specs.Promise as decides
-use Rattle.decision.specs.Promise.{Decided}
 use Rattle.decision.specs.declared.Refusal.TheVariants as undecided
-use Rattle.std.specs.Prelude.{Ok, Err}
 use Rattle.decision.proofs.ListedLaws.{all_below, ordered_below, chain_listed, chain_written}
 use Rattle.keytable.specs.Deciding.{KeyAnswer, KeyDecides}
 use Rattle.keytable.specs.Deciding as by_keys

@@ -22,8 +22,7 @@ use Rattle.records.specs.DerivationBytes.{most_derivation}
 use Rattle.records.proofs.ParsedLaws.{got_or_bad, some_or_none, got_one, some_one}
 use Rattle.table.specs.ReadTable.{Laid as LaidTable, table_of, read_table}
 use Rattle.table.proofs.Theorems.{table_form}
-use Rattle.decision.specs.Promise.{sheet_size, DecidesGood, bad_request, room, unnamed, denied, granted, overrun, Decides, bad_table, good_table}
-use Rattle.decision.specs.Promise.{Decided}
+use Rattle.decision.specs.Promise.{sheet_size, DecidesGood, bad_request, room, unnamed, denied, granted, overrun, Decides, bad_table, good_table, Decided}
 use Rattle.decision.specs.declared.Grant.{Grant}
 use Rattle.decision.specs.declared.Refusal.TheVariants as undecided
 use Rattle.std.specs.Prelude.{Ok, Err}

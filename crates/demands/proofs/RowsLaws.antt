@@ -8,7 +8,7 @@ use Prim.Native.Nat.{ℕ, zero, suc, ◌+◌, ◌<◌, ◌≤◌}
 use native.Mathlib.Omega.{arith}
 use lib.Dec.{T as T', T_not, ltb, eqb, ltb→lt, eqb_refl}
 use lib.ListN.{length, take}
-use Rattle.std.specs.Prelude.{Ok}
+use Rattle.std.specs.Prelude.{Ok, Err}
 use Rattle.rules.specs.Lists.{At, In, NoneTwice}
 use Rattle.rules.specs.Tables.{Target, to_key, to_name, Request, Table}
 use Rattle.rules.specs.Ranges.{Between, Good, GoodTarget, GoodPath}
@@ -35,11 +35,9 @@ use Rattle.wire.proofs.NumberLaws.{bytes_short}
 use Rattle.table.specs.ReadTable.{Laid as LaidTable, table_of, read_table, table_bytes}
 use Rattle.table.proofs.Theorems.{table_reads}
 use Rattle.checker.specs.Promise.{Checked, ChecksGood, bad_request, not_derivation, accepted, Checks, bad_table, good_table}
-use Rattle.decision.specs.Promise.{sheet_size, SheetFilled, DecidesGood, Decides}
+use Rattle.decision.specs.Promise.{sheet_size, SheetFilled, DecidesGood, Decides, Decided}
 use Rattle.decision.specs.Promise as promise
-use Rattle.decision.specs.Promise.{Decided}
 use Rattle.decision.specs.declared.Refusal.TheVariants as undecided
-use Rattle.std.specs.Prelude.{Ok, Err}
 use Rattle.decision.proofs.ListedLaws.{ordered_below}
 use Rattle.decision.proofs.WritingLaws.{many_short, derivation_size}
 use Rattle.table.specs.ReadKeyTable.{most_key_table}

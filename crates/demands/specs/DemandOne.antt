@@ -3,8 +3,7 @@
 use Rattle.std.specs.Prelude.{◌≡◌, List, ℕ, ◌≤◌}
 use Rattle.wire.specs.Number.{Bytes}
 use Rattle.checker.specs.Promise.{Checked, Checks}
-use Rattle.decision.specs.Promise.{Decides, Alike}
-use Rattle.decision.specs.Promise.{Decided}
+use Rattle.decision.specs.Promise.{Decides, Alike, Decided}
 use Rattle.translation.specs.Promise.{Translated, Answers}
 use Rattle.keytable.specs.Deciding.{KeyAnswer, KeyDecides}
 use Rattle.kernel.specs.Answers.{of_decided, of_checked, of_translated, of_key_answer}

@@ -12,8 +12,7 @@ use Rattle.records.specs.Parsed.{got}
 use Rattle.records.specs.Requests.{read_request, read_key_request}
 use Rattle.table.specs.ReadTable.{Laid as LaidTable, table_of, read_table}
 use Rattle.table.specs.ReadKeyTable.{KeyLaid, read_key_table, most_key_table}
-use Rattle.decision.specs.Promise.{Decides}
-use Rattle.decision.specs.Promise.{Decided}
+use Rattle.decision.specs.Promise.{Decides, Decided}
 use Rattle.decision.specs.declared.Refusal.TheVariants as undecided
 use Rattle.translation.specs.Promise.{Translated, Answers}
 use Rattle.keytable.specs.Deciding.{KeyAnswer, KeyDecides}

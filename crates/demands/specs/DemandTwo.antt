@@ -1,6 +1,6 @@
 -- DEMAND 2. Given room, an accepted request whose subject has a meaning is granted exactly if the published rules derive it, at the greatest depth they derive.
 -- Each grant brings a derivation that the separate checker accepts at that depth; the checker accepts exactly the derivations that hold in the tables it is shown.
-use Rattle.std.specs.Prelude.{Ok, ◌≡◌, List, ◌↔◌, ℕ, ◌≤◌, length, take}
+use Rattle.std.specs.Prelude.{Ok, ◌≡◌, List, ◌↔◌, ℕ, ◌≤◌, length, take, Err}
 use Rattle.std.proofs.Math.Option.{some}
 use Rattle.rules.specs.Tables.{Request}
 use Rattle.rules.specs.Names.{TargetMeans}
@@ -14,10 +14,8 @@ use Rattle.records.specs.Requests.{read_request}
 use Rattle.records.specs.DerivationBytes.{Laid, read_derivation, most_derivation}
 use Rattle.table.specs.ReadTable.{Laid as LaidTable, table_of, read_table}
 use Rattle.checker.specs.Promise.{Checked, Checks}
-use Rattle.decision.specs.Promise.{sheet_size, Decides}
-use Rattle.decision.specs.Promise.{Decided}
+use Rattle.decision.specs.Promise.{sheet_size, Decides, Decided}
 use Rattle.decision.specs.declared.Refusal.TheVariants as undecided
-use Rattle.std.specs.Prelude.{Ok, Err}
 
 -- The table and the request are accepted, and the subject has a meaning.
 pub record Accepted (table request : List ℕ) : Type 0 where

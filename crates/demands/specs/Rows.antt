@@ -4,8 +4,7 @@ use Rattle.wire.specs.Placed.{placed}
 use Rattle.records.specs.DerivationBytes.{most_derivation}
 use Rattle.table.specs.ReadKeyTable.{most_key_table}
 use Rattle.checker.specs.Promise.{Checked, Checks}
-use Rattle.decision.specs.Promise.{sheet_size, Decides}
-use Rattle.decision.specs.Promise.{Decided}
+use Rattle.decision.specs.Promise.{sheet_size, Decides, Decided}
 use Rattle.translation.specs.Promise.{Answers, Translated}
 use Rattle.kernel.specs.Answers.{of_decided, of_checked}
 

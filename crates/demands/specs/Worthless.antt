@@ -2,8 +2,7 @@
 use Rattle.std.specs.Prelude.{Ok, ◌≡◌, List, [], ◌∷◌, ℕ, ◌≤◌, length}
 use Rattle.records.specs.DerivationBytes.{most_derivation}
 use Rattle.table.specs.ReadKeyTable.{most_key_table}
-use Rattle.decision.specs.Promise.{sheet_size, Decides}
-use Rattle.decision.specs.Promise.{Decided}
+use Rattle.decision.specs.Promise.{sheet_size, Decides, Decided}
 use Rattle.translation.specs.Promise.{Answers, Translated}
 use Rattle.kernel.specs.Answers.{of_decided}
 use Rattle.demands.specs.Rows.{T}

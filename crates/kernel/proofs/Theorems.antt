@@ -11,7 +11,6 @@ use Rattle.records.specs.declared.faults.Kind.TheVariants as kind
 use Rattle.checker.specs.Promise.{Checked}
 use Rattle.checker.specs.declared.Refusal.TheVariants as not_checked
 use Rattle.checker.proofs.Theorems.{checks_one}
-use Rattle.std.specs.Prelude.{Ok, Err}
 use Rattle.decision.specs.Promise.{Decided, Alike}
 use Rattle.decision.specs.declared.Refusal.TheVariants as undecided
 use Rattle.decision.proofs.Theorems.{decision_one}

@@ -23,7 +23,7 @@ fn mark_for(names: &Names<'_>, sheet: &[u32], marks: &mut [bool], i: usize)
     else {
         return;
     };
-    mark_target(names, sheet, marks, binding.target);
+    mark_target(&names.lookup(), sheet, marks, binding.target);
 }
 
 // Marks whatever the marked ones among the listed bindings need.

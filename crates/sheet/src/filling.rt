@@ -26,7 +26,7 @@ impl<'a> Names<'a> {
     {
         let place = self.bindings[i] as usize;
         match read_binding(&self.table[place..], self.keys.len(), &self.packed[..0]) {
-            Ok((binding, _)) => self.walk_target(sheet, binding.target),
+            Ok((binding, _)) => self.lookup().walk_target(sheet, binding.target),
             Err(_) => Walked::Nothing,
         }
     }

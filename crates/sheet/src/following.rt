@@ -7,7 +7,7 @@ ghost use Rattle.records.specs.Targets.{target_of};
 ghost use Rattle.sheet.specs.Finds.{Finds, Fitting, FittingTarget, rest_of, InTables};
 ghost use Rattle.sheet.specs.Walks.{Walks, for_now};
 
-use crate::names::Names;
+use crate::names::{Lookup, Names};
 use records::paths::Path;
 use records::targets::Target;
 use rules::{Key, Space};
@@ -47,7 +47,7 @@ impl Walked {
     }
 }
 
-impl<'a> Names<'a> {
+impl Lookup<'_> {
     // In the space, the path takes its first name's meaning and goes on with one name fewer.
     pub fn walk(&self, sheet: &[u32], space: Space, path: Path) -> Walked
         requires { (length self.now.packed.now ≤ length sheet.now) × (space.0 < length self.now.keys.now) × Fitting path }
@@ -97,5 +97,23 @@ impl<'a> Names<'a> {
         ensures { InTables self.now.keys.now self.now.packed.now (λ t. Finds (TargetLeads t (InSheet t sheet.now) (target_of target)) result) }
     {
         self.walk_target(sheet, target).for_now()
+    }
+}
+
+impl Names<'_> {
+    // The key that the name leads to.
+    pub fn follow_name(&self, sheet: &[u32], space: Space, path: Path) -> Option<Key>
+        requires { (length self.now.packed.now ≤ length sheet.now) × (space.0 < length self.now.keys.now) × Fitting path }
+        ensures { InTables self.now.keys.now self.now.packed.now (λ t. Finds (NameLeads t (InSheet t sheet.now) space (path_of path)) result) }
+    {
+        self.lookup().follow_name(sheet, space, path)
+    }
+
+    // The key that the target leads to.
+    pub fn follow_target(&self, sheet: &[u32], target: Target) -> Option<Key>
+        requires { (length self.now.packed.now ≤ length sheet.now) × FittingTarget (length self.now.keys.now) target }
+        ensures { InTables self.now.keys.now self.now.packed.now (λ t. Finds (TargetLeads t (InSheet t sheet.now) (target_of target)) result) }
+    {
+        self.lookup().follow_target(sheet, target)
     }
 }

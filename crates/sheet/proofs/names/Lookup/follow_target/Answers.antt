@@ -1,6 +1,6 @@
 -- `follow_target` tells where the target leads for now.
 use Rattle.sheet.proofs.WalksLaws.{found_now}
-use Rattle.sheet.proofs.names.Names.follow_target.Goals as goal
+use Rattle.sheet.proofs.names.Lookup.follow_target.Goals as goal
 
 pub returns : goal.returns
 returns c = λ t index. found_now _ _ _ _ _ c.for_now.ensures (c.walk_target.ensures t index)

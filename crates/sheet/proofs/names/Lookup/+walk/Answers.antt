@@ -5,7 +5,7 @@ use native.Mathlib.Omega.{arith}
 use Rattle.records.specs.declared.paths.Path.{Path}
 use Rattle.sheet.proofs.FindsLaws.{rest_fits, space_below}
 use Rattle.sheet.proofs.WalksLaws.{at_its_end, not_bound, still_empty, last_name, nobody_has, goes_on}
-use Rattle.sheet.proofs.names.Names.+walk.Goals as goal
+use Rattle.sheet.proofs.names.Lookup.+walk.Goals as goal
 
 pub returns-then-path-eq0 : goal.returns-then-path-eq0
 returns-then-path-eq0 t c = λ n index. at_its_end _ _ _ _ index _ _ c.requires.2 c.requires.1 c.if-path-eq0.true
