@@ -1,10 +1,9 @@
 -- The binding of a good table is read where it stands.
-use mathlib.Core.Path.{refl}
 use Rattle.review.proofs.FoundLaws.{binding_read, binding_is}
 use Rattle.review.proofs.opened.OpenTable.binding_at.Goals as goal
 
 pub unwrap-requires : goal.unwrap-requires
-unwrap-requires c = let a = binding_read _ _ _ _ c.args.self.now.good.names.known _ c.requires _ (rw c.from-place.ensures at c.read_binding.ensures) in rw a.1 refl
+unwrap-requires c = binding_read _ _ _ _ c.args.self.now.good.names.known _ c.requires _ (rw c.from-place.ensures at c.read_binding.ensures)
 
 pub returns : goal.returns
 returns c = binding_is _ _ _ _ c.args.self.now.good.names.known _ c.requires _ (rw c.from-place.ensures at c.read_binding.ensures) _ c.unwrap.ensures
