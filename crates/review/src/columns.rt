@@ -13,18 +13,7 @@ const PATH_WIDTH: usize = 23;
 fn digits(number: u32) -> usize
     ensures { result ≤ 10 }
 {
-    match number {
-        0..=9 => 1,
-        10..=99 => 2,
-        100..=999 => 3,
-        1000..=9999 => 4,
-        10000..=99999 => 5,
-        100000..=999999 => 6,
-        1000000..=9999999 => 7,
-        10000000..=99999999 => 8,
-        100000000..=999999999 => 9,
-        _ => 10,
-    }
+    number.max(1).ilog10() as usize + 1
 }
 
 // Writes the key, if there is one, at the right end of a column.
