@@ -35,7 +35,7 @@ pub fn hold(
     }
     let key = good.names.follow_target(sheet, subject)?;
     let last = walk(
-        good,
+        &good.records(),
         sheet,
         asked,
         derivation,

@@ -4,23 +4,23 @@ ghost use Rattle.table.specs.ReadTable.{table_at};
 ghost use Rattle.matching.specs.Matching.{Gives, asked_of};
 ghost use Rattle.checker.specs.Walks.{StepTo, GoesOn, WalksAll};
 
-use matching::good::Good;
+use matching::good::Records;
 use matching::{Asked, Given};
 use records::fields::read_field;
 
 // One step: delegation number `which`, if the holder wrote it and the holder's depth allows a step.
 fn walk_one(
-    good: &Good<'_>,
+    records: &Records<'_>,
     sheet: &[u32],
     asked: Asked,
     which: usize,
     holder: Given,
 ) -> Option<Given>
-    requires { (length good.now.names.packed.now ≤ length sheet.now) × (asked.owner.0 < length good.now.names.keys.now) × (which < length good.now.delegations.now) }
-    ensures { Gives (StepTo (table_at good.now.names.table.now) sheet.now (asked_of asked.owner asked.wanted) which holder.to holder.depth.0) result }
+    requires { (length records.now.lookup.packed.now ≤ length sheet.now) × (asked.owner.0 < length records.now.lookup.keys.now) × (which < length records.now.delegations.now) }
+    ensures { Gives (StepTo (table_at records.now.table.now) sheet.now (asked_of asked.owner asked.wanted) which holder.to holder.depth.0) result }
 {
-    let handed = good.match_delegation(sheet, asked, which)?;
-    if good.names.keys[handed.writer.0] != holder.to.0 || holder.depth.number() == 0 {
+    let handed = records.match_delegation(sheet, asked, which)?;
+    if records.lookup.keys[handed.writer.0] != holder.to.0 || holder.depth.number() == 0 {
         return None;
     }
     Some(Given {
@@ -31,7 +31,7 @@ fn walk_one(
 
 // The delegations whose numbers stand from a place on, from the first holder.
 fn walk_on(
-    good: &Good<'_>,
+    records: &Records<'_>,
     sheet: &[u32],
     asked: Asked,
     derivation: &[u8],
@@ -39,18 +39,18 @@ fn walk_on(
     count: usize,
     first: Given,
 ) -> Option<Given>
-    requires { (length good.now.names.packed.now ≤ length sheet.now) × (asked.owner.0 < length good.now.names.keys.now) }
-    ensures { GoesOn (table_at good.now.names.table.now) sheet.now (asked_of asked.owner asked.wanted) derivation.now from count first.to first.depth.0 result }
+    requires { (length records.now.lookup.packed.now ≤ length sheet.now) × (asked.owner.0 < length records.now.lookup.keys.now) }
+    ensures { GoesOn (table_at records.now.table.now) sheet.now (asked_of asked.owner asked.wanted) derivation.now from count first.to first.depth.0 result }
 {
     let mut at = from;
     let mut holder = first;
     for _ in 0..count {
         let (value, next) = read_field(derivation, at, 0, 511).ok()?;
         let which = value as usize;
-        if which >= good.delegations.len() {
+        if which >= records.delegations.len() {
             return None;
         }
-        holder = walk_one(good, sheet, asked, which, holder)?;
+        holder = walk_one(records, sheet, asked, which, holder)?;
         at = next;
     }
     Some(holder)
@@ -58,21 +58,21 @@ fn walk_on(
 
 // The chain whose numbers stand from a place on: the key that its last name leads to, with the depth.
 pub fn walk(
-    good: &Good<'_>,
+    records: &Records<'_>,
     sheet: &[u32],
     asked: Asked,
     derivation: &[u8],
     from: usize,
     count: usize,
 ) -> Option<Given>
-    requires { (length good.now.names.packed.now ≤ length sheet.now) × (asked.owner.0 < length good.now.names.keys.now) }
-    ensures { WalksAll (table_at good.now.names.table.now) sheet.now (asked_of asked.owner asked.wanted) derivation.now from count result }
+    requires { (length records.now.lookup.packed.now ≤ length sheet.now) × (asked.owner.0 < length records.now.lookup.keys.now) }
+    ensures { WalksAll (table_at records.now.table.now) sheet.now (asked_of asked.owner asked.wanted) derivation.now from count result }
 {
     let (value, next) = read_field(derivation, from, 0, 255).ok()?;
     let which = value as usize;
-    if which >= good.accesses.len() {
+    if which >= records.accesses.len() {
         return None;
     }
-    let first = good.match_access(sheet, asked, which)?;
-    walk_on(good, sheet, asked, derivation, next, count, first)
+    let first = records.match_access(sheet, asked, which)?;
+    walk_on(records, sheet, asked, derivation, next, count, first)
 }

@@ -62,7 +62,7 @@ fn decide_roomy(
         .follow_target(sheet, subject)
         .ok_or(Refusal::Unnamed)?;
     let mut chain = [0; 15];
-    let settled = find_chain(good, sheet, asked, key, &mut edges, &mut chain).ok_or(
+    let settled = find_chain(&good.records(), sheet, asked, key, &mut edges, &mut chain).ok_or(
         Refusal::Denied,
     )?;
     let length = show(

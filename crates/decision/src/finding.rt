@@ -9,22 +9,22 @@ ghost use Rattle.decision.specs.Settling.{Settles};
 use crate::gathering::draw_all;
 use crate::settling::{Settled, settle};
 use matching::Asked;
-use matching::good::Good;
+use matching::good::Records;
 use rules::Key;
 
 // Settles what the key has, with room for the edges lent; the chain's delegations stand at the end of `chain`.
 pub fn find_chain(
-    good: &Good<'_>,
+    records: &Records<'_>,
     sheet: &[u32],
     asked: Asked,
     subject: Key,
     edges: &mut [u32],
     chain: &mut [u16],
 ) -> Option<Settled>
-    requires { (length good.now.names.packed.now ≤ length sheet.now) × (asked.owner.0 < length good.now.names.keys.now)
-        × (length good.now.accesses.now ≤ most_accesses) × (length good.now.delegations.now ≤ most_delegations) × (most_delegations ≤ length edges.old) × (length chain.old ≡ top) }
-    ensures { Settles (table_at good.now.names.table.now) sheet.now (asked_of asked.owner asked.wanted) subject chain.new result }
+    requires { (length records.now.lookup.packed.now ≤ length sheet.now) × (asked.owner.0 < length records.now.lookup.keys.now)
+        × (length records.now.accesses.now ≤ most_accesses) × (length records.now.delegations.now ≤ most_delegations) × (most_delegations ≤ length edges.old) × (length chain.old ≡ top) }
+    ensures { Settles (table_at records.now.table.now) sheet.now (asked_of asked.owner asked.wanted) subject chain.new result }
 {
-    let m = draw_all(good, sheet, asked, subject, edges);
-    settle(good, sheet, asked, subject, &edges[..m], chain)
+    let m = draw_all(records, sheet, asked, subject, edges);
+    settle(records, sheet, asked, subject, &edges[..m], chain)
 }

@@ -7,7 +7,7 @@ ghost use Rattle.matching.specs.Matching.{asked_of};
 ghost use Rattle.decision.specs.Gathering.{FindsNode, GivenSo, DrawnSo};
 
 use matching::Asked;
-use matching::good::Good;
+use matching::good::Records;
 use reach::edges::edge;
 use rules::Key;
 use table::finding::find_space;
@@ -31,7 +31,7 @@ pub fn find_node(keys: &[u32], subject: Key, key: Key) -> Option<usize>
 
 // One more access record: the node that it gives access keeps the greatest code, and the record's number.
 fn give_one(
-    good: &Good<'_>,
+    records: &Records<'_>,
     sheet: &[u32],
     asked: Asked,
     subject: Key,
@@ -39,15 +39,15 @@ fn give_one(
     best: &mut [u8],
     roots: &mut [u16],
 )
-    requires { (length good.now.names.packed.now ≤ length sheet.now) × (i < length good.now.accesses.now) × (length good.now.accesses.now ≤ most_accesses)
-        × (length best.old ≡ suc (length good.now.names.keys.now)) × (length roots.old ≡ suc (length good.now.names.keys.now))
-        × GivenSo (table_at good.now.names.table.now) sheet.now (asked_of asked.owner asked.wanted) subject i best.old roots.old }
-    ensures { GivenSo (table_at good.now.names.table.now) sheet.now (asked_of asked.owner asked.wanted) subject (i + 1) best.new roots.new }
+    requires { (length records.now.lookup.packed.now ≤ length sheet.now) × (i < length records.now.accesses.now) × (length records.now.accesses.now ≤ most_accesses)
+        × (length best.old ≡ suc (length records.now.lookup.keys.now)) × (length roots.old ≡ suc (length records.now.lookup.keys.now))
+        × GivenSo (table_at records.now.table.now) sheet.now (asked_of asked.owner asked.wanted) subject i best.old roots.old }
+    ensures { GivenSo (table_at records.now.table.now) sheet.now (asked_of asked.owner asked.wanted) subject (i + 1) best.new roots.new }
 {
-    let Some(given) = good.match_access(sheet, asked, i) else {
+    let Some(given) = records.match_access(sheet, asked, i) else {
         return;
     };
-    let Some(v) = find_node(good.names.keys, subject, given.to) else {
+    let Some(v) = find_node(records.lookup.keys, subject, given.to) else {
         return;
     };
     let code = given.depth.number() as u8 + 1;
@@ -60,27 +60,27 @@ fn give_one(
 
 // The codes that the access records give.
 pub fn give_all(
-    good: &Good<'_>,
+    records: &Records<'_>,
     sheet: &[u32],
     asked: Asked,
     subject: Key,
     best: &mut [u8],
     roots: &mut [u16],
 )
-    requires { (length good.now.names.packed.now ≤ length sheet.now) × (length good.now.accesses.now ≤ most_accesses)
-        × (length best.old ≡ suc (length good.now.names.keys.now)) × (length roots.old ≡ suc (length good.now.names.keys.now))
-        × GivenSo (table_at good.now.names.table.now) sheet.now (asked_of asked.owner asked.wanted) subject 0 best.old roots.old }
-    ensures { GivenSo (table_at good.now.names.table.now) sheet.now (asked_of asked.owner asked.wanted) subject (length good.now.accesses.now) best.new roots.new }
+    requires { (length records.now.lookup.packed.now ≤ length sheet.now) × (length records.now.accesses.now ≤ most_accesses)
+        × (length best.old ≡ suc (length records.now.lookup.keys.now)) × (length roots.old ≡ suc (length records.now.lookup.keys.now))
+        × GivenSo (table_at records.now.table.now) sheet.now (asked_of asked.owner asked.wanted) subject 0 best.old roots.old }
+    ensures { GivenSo (table_at records.now.table.now) sheet.now (asked_of asked.owner asked.wanted) subject (length records.now.accesses.now) best.new roots.new }
 {
-    for i in 0..good.accesses.len() {
-        give_one(good, sheet, asked, subject, i, best, roots);
+    for i in 0..records.accesses.len() {
+        give_one(records, sheet, asked, subject, i, best, roots);
     }
 }
 
 // One more delegation: an edge behind the `m` that there are, if it is between two nodes; answers how many there are then.
 // The count stands beside the row, for the rows are fixed: no heap.
 fn draw_one(
-    good: &Good<'_>,
+    records: &Records<'_>,
     sheet: &[u32],
     asked: Asked,
     subject: Key,
@@ -88,16 +88,16 @@ fn draw_one(
     edges: &mut [u32],
     m: usize,
 ) -> usize
-    requires { (length good.now.names.packed.now ≤ length sheet.now) × (asked.owner.0 < length good.now.names.keys.now) × (j < length good.now.delegations.now)
-        × (length good.now.delegations.now ≤ most_delegations) × (most_delegations ≤ length edges.old) × (m ≤ j)
-        × DrawnSo (table_at good.now.names.table.now) sheet.now (asked_of asked.owner asked.wanted) subject j (take m edges.old) }
-    ensures drawn { DrawnSo (table_at good.now.names.table.now) sheet.now (asked_of asked.owner asked.wanted) subject (j + 1) (take result edges.new) }
+    requires { (length records.now.lookup.packed.now ≤ length sheet.now) × (asked.owner.0 < length records.now.lookup.keys.now) × (j < length records.now.delegations.now)
+        × (length records.now.delegations.now ≤ most_delegations) × (most_delegations ≤ length edges.old) × (m ≤ j)
+        × DrawnSo (table_at records.now.table.now) sheet.now (asked_of asked.owner asked.wanted) subject j (take m edges.old) }
+    ensures drawn { DrawnSo (table_at records.now.table.now) sheet.now (asked_of asked.owner asked.wanted) subject (j + 1) (take result edges.new) }
     ensures few { result ≤ j + 1 }
 {
-    let Some(handed) = good.match_delegation(sheet, asked, j) else {
+    let Some(handed) = records.match_delegation(sheet, asked, j) else {
         return m;
     };
-    let Some(v) = find_node(good.names.keys, subject, handed.to) else {
+    let Some(v) = find_node(records.lookup.keys, subject, handed.to) else {
         return m;
     };
     edges[m] = edge(handed.writer.0, v, handed.depth.number(), j);
@@ -106,20 +106,20 @@ fn draw_one(
 
 // The edges that the delegations are; answers how many.
 pub fn draw_all(
-    good: &Good<'_>,
+    records: &Records<'_>,
     sheet: &[u32],
     asked: Asked,
     subject: Key,
     edges: &mut [u32],
 ) -> usize
-    requires { (length good.now.names.packed.now ≤ length sheet.now) × (asked.owner.0 < length good.now.names.keys.now)
-        × (length good.now.delegations.now ≤ most_delegations) × (most_delegations ≤ length edges.old) }
-    ensures drawn { DrawnSo (table_at good.now.names.table.now) sheet.now (asked_of asked.owner asked.wanted) subject (length good.now.delegations.now) (take result edges.new) }
-    ensures few { result ≤ length good.now.delegations.now }
+    requires { (length records.now.lookup.packed.now ≤ length sheet.now) × (asked.owner.0 < length records.now.lookup.keys.now)
+        × (length records.now.delegations.now ≤ most_delegations) × (most_delegations ≤ length edges.old) }
+    ensures drawn { DrawnSo (table_at records.now.table.now) sheet.now (asked_of asked.owner asked.wanted) subject (length records.now.delegations.now) (take result edges.new) }
+    ensures few { result ≤ length records.now.delegations.now }
 {
     let mut m = 0;
-    for j in 0..good.delegations.len() {
-        m = draw_one(good, sheet, asked, subject, j, edges, m);
+    for j in 0..records.delegations.len() {
+        m = draw_one(records, sheet, asked, subject, j, edges, m);
     }
     m
 }

@@ -9,7 +9,7 @@ ghost use Rattle.decision.specs.Settling.{Settles, depth_of};
 
 use crate::gathering::{find_node, give_all};
 use matching::Asked;
-use matching::good::Good;
+use matching::good::Records;
 use reach::{reach, trace};
 use rules::{Depth, Key};
 
@@ -34,19 +34,19 @@ fn depth_of(code: u8) -> Option<Depth>
 
 // Settles what the subject has, over the edges that the delegations are; the chain's delegations stand at the end of `chain`.
 pub fn settle(
-    good: &Good<'_>,
+    records: &Records<'_>,
     sheet: &[u32],
     asked: Asked,
     subject: Key,
     edges: &[u32],
     chain: &mut [u16],
 ) -> Option<Settled>
-    requires { (length good.now.names.packed.now ≤ length sheet.now) × (length good.now.accesses.now ≤ most_accesses) × (length good.now.delegations.now ≤ most_delegations)
-        × DrawnSo (table_at good.now.names.table.now) sheet.now (asked_of asked.owner asked.wanted) subject (length good.now.delegations.now) edges.now × (length edges.now ≤ most_delegations)
+    requires { (length records.now.lookup.packed.now ≤ length sheet.now) × (length records.now.accesses.now ≤ most_accesses) × (length records.now.delegations.now ≤ most_delegations)
+        × DrawnSo (table_at records.now.table.now) sheet.now (asked_of asked.owner asked.wanted) subject (length records.now.delegations.now) edges.now × (length edges.now ≤ most_delegations)
         × (length chain.old ≡ top) }
-    ensures { Settles (table_at good.now.names.table.now) sheet.now (asked_of asked.owner asked.wanted) subject chain.new result }
+    ensures { Settles (table_at records.now.table.now) sheet.now (asked_of asked.owner asked.wanted) subject chain.new result }
 {
-    let nodes = good.names.keys.len() + 1;
+    let nodes = records.lookup.keys.len() + 1;
     let mut begun = [0; 65];
     let mut roots = [0; 65];
     let mut best = [0; 65];
@@ -55,10 +55,10 @@ pub fn settle(
     let roots = &mut roots[..nodes];
     let best = &mut best[..nodes];
     let by = &mut by[..nodes];
-    give_all(good, sheet, asked, subject, begun, roots);
+    give_all(records, sheet, asked, subject, begun, roots);
     best.copy_from_slice(begun);
     reach(edges, best, by);
-    let v = find_node(good.names.keys, subject, subject)?;
+    let v = find_node(records.lookup.keys, subject, subject)?;
     let depth = depth_of(best[v])?;
     let trail = trace(edges, begun, best, roots, by, v, chain);
     Some(Settled {

@@ -9,46 +9,39 @@ ghost use Rattle.decision.specs.Showing.{AccessMarked, DelegationMarked, ChainMa
 
 use marking::needed::mark_needed;
 use marking::through::{mark_name, mark_target};
-use matching::good::Good;
+use matching::good::{Good, Records};
 use records::targets::Target;
 
 // Marks the bindings that the path of access record number `i` goes through.
-pub fn mark_access(good: &Good<'_>, sheet: &[u32], marks: &mut [bool], i: usize)
-    requires { Exact (table_at good.now.names.table.now).names sheet.now × (length good.now.names.packed.now ≤ length sheet.now) × (length good.now.names.packed.now ≤ length marks.old)
-        × (i < length (table_at good.now.names.table.now).accesses) }
-    ensures { AccessMarked (table_at good.now.names.table.now) i marks.old marks.new }
+pub fn mark_access(records: &Records<'_>, sheet: &[u32], marks: &mut [bool], i: usize)
+    requires { Exact (table_at records.now.table.now).names sheet.now × (length records.now.lookup.packed.now ≤ length sheet.now) × (length records.now.lookup.packed.now ≤ length marks.old)
+        × (i < length (table_at records.now.table.now).accesses) }
+    ensures { AccessMarked (table_at records.now.table.now) i marks.old marks.new }
 {
-    let access = good.access(i);
-    mark_name(
-        &good.names.lookup(),
-        sheet,
-        marks,
-        access.owner,
-        access.path,
-    );
+    let access = records.access(i);
+    mark_name(&records.lookup, sheet, marks, access.owner, access.path);
 }
 
 // Marks the bindings that the paths of delegation number `j` go through.
-pub fn mark_delegation(good: &Good<'_>, sheet: &[u32], marks: &mut [bool], j: usize)
-    requires { Exact (table_at good.now.names.table.now).names sheet.now × (length good.now.names.packed.now ≤ length sheet.now) × (length good.now.names.packed.now ≤ length marks.old)
-        × (j < length (table_at good.now.names.table.now).delegations) }
-    ensures { DelegationMarked (table_at good.now.names.table.now) j marks.old marks.new }
+pub fn mark_delegation(records: &Records<'_>, sheet: &[u32], marks: &mut [bool], j: usize)
+    requires { Exact (table_at records.now.table.now).names sheet.now × (length records.now.lookup.packed.now ≤ length sheet.now) × (length records.now.lookup.packed.now ≤ length marks.old)
+        × (j < length (table_at records.now.table.now).delegations) }
+    ensures { DelegationMarked (table_at records.now.table.now) j marks.old marks.new }
 {
-    let delegation = good.delegation(j);
+    let delegation = records.delegation(j);
     let writer = delegation.writer;
-    let lookup = good.names.lookup();
-    mark_name(&lookup, sheet, marks, writer, delegation.owner);
-    mark_name(&lookup, sheet, marks, writer, delegation.delegatee);
+    mark_name(&records.lookup, sheet, marks, writer, delegation.owner);
+    mark_name(&records.lookup, sheet, marks, writer, delegation.delegatee);
 }
 
 // Marks the bindings that the paths of the chain's delegations go through.
-pub fn mark_chain(good: &Good<'_>, sheet: &[u32], marks: &mut [bool], chain: &[u16])
-    requires { Exact (table_at good.now.names.table.now).names sheet.now × (length good.now.names.packed.now ≤ length sheet.now) × (length good.now.names.packed.now ≤ length marks.old)
-        × AllWritten (table_at good.now.names.table.now) chain.now }
-    ensures { ChainMarked (table_at good.now.names.table.now) chain.now marks.old marks.new }
+pub fn mark_chain(records: &Records<'_>, sheet: &[u32], marks: &mut [bool], chain: &[u16])
+    requires { Exact (table_at records.now.table.now).names sheet.now × (length records.now.lookup.packed.now ≤ length sheet.now) × (length records.now.lookup.packed.now ≤ length marks.old)
+        × AllWritten (table_at records.now.table.now) chain.now }
+    ensures { ChainMarked (table_at records.now.table.now) chain.now marks.old marks.new }
 {
     for j in chain {
-        mark_delegation(good, sheet, marks, *j as usize);
+        mark_delegation(records, sheet, marks, *j as usize);
     }
 }
 
@@ -68,7 +61,8 @@ pub fn mark_all(
     ensures { AllMarked (table_at good.now.names.table.now) (target_of subject) access chain.now order.now marks.new }
 {
     mark_target(&good.names.lookup(), sheet, marks, subject);
-    mark_access(good, sheet, marks, access);
-    mark_chain(good, sheet, marks, chain);
+    let records = good.records();
+    mark_access(&records, sheet, marks, access);
+    mark_chain(&records, sheet, marks, chain);
     mark_needed(&good.names, sheet, order, marks);
 }

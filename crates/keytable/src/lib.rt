@@ -55,7 +55,8 @@ const NOTHING: KeyRequest = KeyRequest {
     },
 };
 
-// Reads the key table whole, and keeps where those records stand that are for what is asked.
+// Reads the key table whole, and keeps where those records stand that are for what is asked. The
+// rows that it fills stay loose: each has its own length.
 fn load_asked(
     table: &[u8],
     request: KeyRequest,

@@ -6,7 +6,7 @@ ghost use Rattle.table.specs.ReadTable.{table_at};
 ghost use Rattle.matching.specs.Records.{HoldsAccess, HoldsDelegation};
 ghost use Rattle.matching.specs.Matching.{Gives, Hands, GivesTo, HandsOn, asked_of};
 
-use crate::good::Good;
+use crate::good::{Good, Records};
 use records::accesses::{Access, read_access};
 use records::delegations::{Delegation, read_delegation};
 use records::fields::Use;
@@ -37,40 +37,40 @@ pub struct Handed {
     pub depth: Depth,
 }
 
-impl<'a> Good<'a> {
+impl Records<'_> {
     // Access record number `i`.
     pub fn access(&self, i: usize) -> Access
         requires { i < length self.now.accesses.now }
-        ensures { HoldsAccess (table_at self.now.names.table.now) (length self.now.names.keys.now) i result }
+        ensures { HoldsAccess (table_at self.now.table.now) (length self.now.lookup.keys.now) i result }
     {
         let place = self.accesses[i] as usize;
-        let (access, _) = read_access(&self.names.table[place..], self.names.keys.len()).unwrap();
+        let (access, _) = read_access(&self.table[place..], self.lookup.keys.len()).unwrap();
         access
     }
 
     // Delegation number `j`.
     pub fn delegation(&self, j: usize) -> Delegation
         requires { j < length self.now.delegations.now }
-        ensures { HoldsDelegation (table_at self.now.names.table.now) (length self.now.names.keys.now) j result }
+        ensures { HoldsDelegation (table_at self.now.table.now) (length self.now.lookup.keys.now) j result }
     {
         let place = self.delegations[j] as usize;
         let (delegation, _) = read_delegation(
-            &self.names.table[place..],
-            self.names.keys.len(),
+            &self.table[place..],
+            self.lookup.keys.len(),
         ).unwrap();
         delegation
     }
 
     // What access record number `i` gives: the key that its name leads to, if it is for the request.
     pub fn match_access(&self, sheet: &[u32], asked: Asked, i: usize) -> Option<Given>
-        requires { (length self.now.names.packed.now ≤ length sheet.now) × (i < length self.now.accesses.now) }
-        ensures { Gives (GivesTo (table_at self.now.names.table.now) sheet.now (asked_of asked.owner asked.wanted) i) result }
+        requires { (length self.now.lookup.packed.now ≤ length sheet.now) × (i < length self.now.accesses.now) }
+        ensures { Gives (GivesTo (table_at self.now.table.now) sheet.now (asked_of asked.owner asked.wanted) i) result }
     {
         let access = self.access(i);
         if access.owner != asked.owner || access.wanted != asked.wanted {
             return None;
         }
-        let to = self.names.follow_name(sheet, access.owner, access.path)?;
+        let to = self.lookup.follow_name(sheet, access.owner, access.path)?;
         Some(Given {
             to,
             depth: access.depth,
@@ -79,23 +79,43 @@ impl<'a> Good<'a> {
 
     // What delegation number `j` hands on: the key that its delegatee's name leads to, if it is for the request and its owner path leads to the owner.
     pub fn match_delegation(&self, sheet: &[u32], asked: Asked, j: usize) -> Option<Handed>
-        requires { (length self.now.names.packed.now ≤ length sheet.now) × (asked.owner.0 < length self.now.names.keys.now) × (j < length self.now.delegations.now) }
-        ensures { Hands (HandsOn (table_at self.now.names.table.now) sheet.now (asked_of asked.owner asked.wanted) j) result }
+        requires { (length self.now.lookup.packed.now ≤ length sheet.now) × (asked.owner.0 < length self.now.lookup.keys.now) × (j < length self.now.delegations.now) }
+        ensures { Hands (HandsOn (table_at self.now.table.now) sheet.now (asked_of asked.owner asked.wanted) j) result }
     {
         let delegation = self.delegation(j);
         if delegation.wanted != asked.wanted {
             return None;
         }
         let writer = delegation.writer;
-        let owner = self.names.follow_name(sheet, writer, delegation.owner)?;
-        if owner.0 != self.names.keys[asked.owner.0] {
+        let owner = self.lookup.follow_name(sheet, writer, delegation.owner)?;
+        if owner.0 != self.lookup.keys[asked.owner.0] {
             return None;
         }
-        let to = self.names.follow_name(sheet, writer, delegation.delegatee)?;
+        let to = self
+            .lookup
+            .follow_name(sheet, writer, delegation.delegatee)?;
         Some(Handed {
             writer,
             to,
             depth: delegation.depth,
         })
+    }
+}
+
+impl Good<'_> {
+    // Access record number `i`.
+    pub fn access(&self, i: usize) -> Access
+        requires { i < length self.now.accesses.now }
+        ensures { HoldsAccess (table_at self.now.names.table.now) (length self.now.names.keys.now) i result }
+    {
+        self.records().access(i)
+    }
+
+    // Delegation number `j`.
+    pub fn delegation(&self, j: usize) -> Delegation
+        requires { j < length self.now.delegations.now }
+        ensures { HoldsDelegation (table_at self.now.names.table.now) (length self.now.names.keys.now) j result }
+    {
+        self.records().delegation(j)
     }
 }

@@ -74,7 +74,7 @@ impl<'a> Names<'a> {
         }
     }
 
-    // One round over the bindings; answers how many are listed then.
+    // One round over the bindings; answers how many are listed then. The count stands beside the row, as above.
     fn round(&self, sheet: &mut [u32], order: &mut [u16], waits: &mut [u32], listed: usize) -> usize
         requires { Listing (table_at self.now.table.now).names sheet.old order.old listed × Waiting (table_at self.now.table.now).names sheet.old waits.old }
         ensures round { Round (table_at self.now.table.now).names listed sheet.new order.new (length self.now.packed.now) result }

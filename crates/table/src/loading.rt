@@ -85,6 +85,7 @@ fn after_binding(
 }
 
 // So many bindings from a place on; the names that they bind are kept in `names`, packed, and where they stand in `places`; `marks` is a row to mark them in.
+// The rows that it fills stay loose: each has its own length.
 fn read_bindings(
     table: &[u8],
     from: usize,

@@ -17,7 +17,8 @@ pub struct Written {
     pub end: usize,
 }
 
-// A record of a key table, of a kind that records of a table become.
+// A record of a key table, of a kind that records of a table become. `Ready` stands in the contracts here, and not in a type: it speaks of a table and of a
+// sheet that the caller fills, and only this crate puts the two together.
 pub trait KeyRecord: Copy {
     ghost kind: { Kind };
 

@@ -5,4 +5,4 @@ use Rattle.decision.specs.Gathering.{GivenSo}
 use Rattle.decision.proofs.gathering.give_all.Given as goal
 
 abbrev pub invariant-loop-i : goal.invariant-loop-i
-invariant-loop-i l = GivenSo (table_at l.good.names.table.now) l.sheet (asked_of l.asked.owner l.asked.wanted) l.subject l.i l.best l.roots
+invariant-loop-i l = GivenSo (table_at l.records.table.now) l.sheet (asked_of l.asked.owner l.asked.wanted) l.subject l.i l.best l.roots

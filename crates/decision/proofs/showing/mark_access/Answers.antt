@@ -4,10 +4,10 @@ use Rattle.decision.proofs.ShowingLaws.{access_marked}
 use Rattle.decision.proofs.showing.mark_access.Goals as goal
 
 pub access-access-requires : goal.access-access-requires
-access-access-requires c = omega (arith, c.args.good.now.held.access_count, c.requires.3)
+access-access-requires c = omega (arith, c.args.records.now.held.access_count, c.requires.3)
 
 pub mark_name-requires : goal.mark_name-requires
-mark_name-requires c = rw (c.lookup.ensures.0, c.lookup.ensures.1) (c.requires.1, c.requires.2, c.access-access.ensures.owner, c.access-access.ensures.path)
+mark_name-requires c = (c.requires.1, c.requires.2, c.access-access.ensures.owner, c.access-access.ensures.path)
 
 pub returns : goal.returns
-returns c = access_marked _ c.args.good.now.held.good _ _ _ c.access-access.ensures.at c.access-access.ensures.is (c.mark_name.ensures _ (rw (c.lookup.ensures.0, c.lookup.ensures.1) c.args.good.now.held.index) c.requires.0)
+returns c = access_marked _ c.args.records.now.held.good _ _ _ c.access-access.ensures.at c.access-access.ensures.is (c.mark_name.ensures _ c.args.records.now.held.index c.requires.0)

@@ -2,7 +2,7 @@
 use mathlib.Core.Path.{refl}
 use native.Mathlib.Omega.{arith}
 use Rattle.matching.proofs.MatchingLaws.{delegations_below, for_other, owner_nowhere, owner_other, delegatee_nowhere, delegation_hands}
-use Rattle.matching.proofs.good.Good.match_delegation.Goals as goal
+use Rattle.matching.proofs.good.Records.match_delegation.Goals as goal
 
 pub returns-then-ne : goal.returns-then-ne
 returns-then-ne c = for_other _ _ _ _ _ c.args.self.now.held _ (delegations_below _ _ _ _ _ c.args.self.now.held _ c.requires.2) _ c.delegation-delegation.ensures _ c.args.asked.owner c.args.asked.wanted (λ a b. grind (arith, c.if-ne.ensures))

@@ -2,8 +2,8 @@
 use mathlib.Core.Path.{refl}
 use native.Mathlib.Omega.{arith}
 use Rattle.matching.proofs.MatchingLaws.{accesses_below, other_asked, access_leads_nowhere, access_gives}
-use Rattle.matching.proofs.good.Good.match_access.Goals as goal
-use Rattle.matching.proofs.good.Good.match_access.Goals.{then-ne-via-then-ne, then-ne-via-else-ne+then-ne-2}
+use Rattle.matching.proofs.good.Records.match_access.Goals as goal
+use Rattle.matching.proofs.good.Records.match_access.Goals.{then-ne-via-then-ne, then-ne-via-else-ne+then-ne-2}
 
 pub returns-then-ne : goal.returns-then-ne
 returns-then-ne c =
