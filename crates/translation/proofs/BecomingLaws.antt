@@ -24,7 +24,7 @@ use Rattle.sheet.specs.Finds.{Finds, key, nothing}
 use Rattle.sheet.proofs.FindsLaws.{own_key, finds_key, finds_none}
 use Rattle.sheet.proofs.MeaningLaws.{path_back, index_spaces}
 use Rattle.matching.specs.Records.{HoldsAccess, HoldsDelegation}
-use Rattle.matching.specs.declared.good.Good.{Good}
+use Rattle.matching.specs.declared.good.Records.{Records}
 use Rattle.translation.specs.Kinds.{access_kind, delegation_kind}
 use Rattle.translation.specs.Becoming.{BecomesKeyed, Keyed, becomes, Ready}
 use Rattle.translation.specs.Becoming.{nothing as becomes_nothing}
@@ -34,12 +34,12 @@ finds_as : {P Q : Key → Type 0} {r : Option Key} → ((k : Key) → P k ↔ Q 
 finds_as same (key k v) = key k ((same k).0 v)
 finds_as same (nothing f) = nothing (λ k w. f k ((same k).1 w))
 
-module _ (g : Good) (sheet : List ℕ) (ready : Ready g sheet) where
+module _ (g : Records) (sheet : List ℕ) (ready : Ready g sheet) where
   abbrev s : List ℕ
-  s = g.names.table.now
+  s = g.table.now
 
   abbrev keys : List ℕ
-  keys = g.names.keys.now
+  keys = g.lookup.keys.now
 
   -- What following a name found is what the name means.
   abbrev Leads : Space → Path → Key → Type 0
@@ -54,7 +54,7 @@ module _ (g : Good) (sheet : List ℕ) (ready : Ready g sheet) where
   kept_key : (S T : Space) → T ≡ S → S.0 < length (table_at s).names.spaces → IsSelf (table_at s).names.spaces S (record { 0 = get_or keys T.0 0 })
   kept_key S T e h =
       subst (λ (U : Space). IsSelf (table_at s).names.spaces S (record { 0 = get_or keys U.0 0 })) (sym e)
-      (own_key (table_at s).names keys g.names.packed.now g.held.index S (omega (arith, h, index_spaces (table_at s).names keys g.names.packed.now g.held.index)))
+      (own_key (table_at s).names keys g.lookup.packed.now g.held.index S (omega (arith, h, index_spaces (table_at s).names keys g.lookup.packed.now g.held.index)))
 
   -- ---- access records
   module _ (i : ℕ) (v : Access) (holds : HoldsAccess (table_at s) (length keys) i v) (a : Option Key) (end : Finds (Leads v.owner (path_of v.path)) a) where

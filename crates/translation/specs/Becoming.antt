@@ -7,7 +7,7 @@ use Rattle.rules.specs.Translation.{translate}
 use Rattle.rules.specs.Greatest.{teller}
 use Rattle.wire.specs.Placed.{placed}
 use Rattle.table.specs.ReadTable.{table_at}
-use Rattle.matching.specs.declared.good.Good.{Good}
+use Rattle.matching.specs.declared.good.Records.{Records}
 use Rattle.translation.specs.Kinds.{Kind}
 use Rattle.translation.specs.declared.sections.Written.{Written}
 
@@ -36,10 +36,10 @@ pub data Puts {B : Type 0} (P : B → Type 0) (E : B → List ℕ) (before : Lis
 pub record RoomFor {B : Type 0} (P : B → Type 0) (E : B → List ℕ) (out : List ℕ) (at : ℕ) : Type 0 where
   pub room : (y : B) → P y → at + length (E y) ≤ length out
 
--- Of a good table, an exact sheet.
-pub record Ready (g : Good) (sheet : List ℕ) : Type 0 where
-  pub room : length g.names.packed.now ≤ length sheet
-  pub exact : Exact (table_at g.names.table.now).names sheet
+-- Of a good table's records, an exact sheet.
+pub record Ready (r : Records) (sheet : List ℕ) : Type 0 where
+  pub room : length r.lookup.packed.now ≤ length sheet
+  pub exact : Exact (table_at r.table.now).names sheet
 
 -- The key table that the table in good bytes becomes.
 unfoldable pub key_table_at : List ℕ → KeyTable

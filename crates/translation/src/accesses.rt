@@ -3,7 +3,7 @@ ghost use Rattle.records.specs.KeyRecords.{key_access_of};
 ghost use Rattle.translation.specs.Kinds.{access_kind, access_laws};
 
 use crate::sections::KeyRecord;
-use matching::good::Good;
+use matching::good::Records;
 use records::keys::{KeyAccess, write_key_access};
 use rules::Key;
 
@@ -15,11 +15,13 @@ impl KeyRecord for KeyAccess {
     ghost laws = { access_laws };
 
     // What access record number `i` becomes, unless its path has no meaning.
-    fn keyed(good: &Good<'_>, sheet: &[u32], i: usize) -> Option<KeyAccess> {
-        let access = good.access(i);
-        let subject = good.names.follow_name(sheet, access.owner, access.path)?;
+    fn keyed(records: &Records<'_>, sheet: &[u32], i: usize) -> Option<KeyAccess> {
+        let access = records.access(i);
+        let subject = records
+            .lookup
+            .follow_name(sheet, access.owner, access.path)?;
         Some(KeyAccess {
-            owner: Key(good.names.keys[access.owner.0]),
+            owner: Key(records.lookup.keys[access.owner.0]),
             wanted: access.wanted,
             subject,
             depth: access.depth,

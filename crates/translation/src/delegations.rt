@@ -3,7 +3,7 @@ ghost use Rattle.records.specs.KeyRecords.{key_delegation_of};
 ghost use Rattle.translation.specs.Kinds.{delegation_kind, delegation_laws};
 
 use crate::sections::KeyRecord;
-use matching::good::Good;
+use matching::good::Records;
 use records::keys::{KeyDelegation, write_key_delegation};
 use rules::Key;
 
@@ -15,13 +15,15 @@ impl KeyRecord for KeyDelegation {
     ghost laws = { delegation_laws };
 
     // What delegation number `i` becomes, unless one of its paths has no meaning.
-    fn keyed(good: &Good<'_>, sheet: &[u32], i: usize) -> Option<KeyDelegation> {
-        let delegation = good.delegation(i);
+    fn keyed(records: &Records<'_>, sheet: &[u32], i: usize) -> Option<KeyDelegation> {
+        let delegation = records.delegation(i);
         let writer = delegation.writer;
-        let owner = good.names.follow_name(sheet, writer, delegation.owner)?;
-        let delegatee = good.names.follow_name(sheet, writer, delegation.delegatee)?;
+        let owner = records.lookup.follow_name(sheet, writer, delegation.owner)?;
+        let delegatee = records
+            .lookup
+            .follow_name(sheet, writer, delegation.delegatee)?;
         Some(KeyDelegation {
-            writer: Key(good.names.keys[writer.0]),
+            writer: Key(records.lookup.keys[writer.0]),
             owner,
             wanted: delegation.wanted,
             delegatee,

@@ -8,7 +8,7 @@ ghost use Rattle.translation.specs.Becoming.{Ready, key_table_at};
 ghost use Rattle.translation.specs.Promise.{Answers};
 
 use crate::sections::write_section;
-use matching::good::Good;
+use matching::good::{Good, Records};
 use matching::opening::Rows;
 use records::faults::Fault;
 use records::keys::{KeyAccess, KeyDelegation};
@@ -27,14 +27,14 @@ pub enum Refusal {
 }
 
 // Writes the key table at the start of `out`, and returns how many bytes it takes.
-fn write_key_table(good: &Good<'_>, sheet: &[u32], out: &mut [u8]) -> usize
-    requires { Ready good.now sheet.now × (length (key_table_bytes (key_table_at good.now.names.table.now)) ≤ length out.old) }
-    ensures { (result ≡ length (key_table_bytes (key_table_at good.now.names.table.now)))
-        × (out.new ≡ placed out.old 0 (key_table_bytes (key_table_at good.now.names.table.now))) }
+fn write_key_table(records: &Records<'_>, sheet: &[u32], out: &mut [u8]) -> usize
+    requires { Ready records.now sheet.now × (length (key_table_bytes (key_table_at records.now.table.now)) ≤ length out.old) }
+    ensures { (result ≡ length (key_table_bytes (key_table_at records.now.table.now)))
+        × (out.new ≡ placed out.old 0 (key_table_bytes (key_table_at records.now.table.now))) }
 {
     let at1 = wire::write(out, 0);
-    let at2 = write_section::<KeyAccess>(good, sheet, good.accesses.len(), out, at1);
-    write_section::<KeyDelegation>(good, sheet, good.delegations.len(), out, at2)
+    let at2 = write_section::<KeyAccess>(records, sheet, records.accesses.len(), out, at1);
+    write_section::<KeyDelegation>(records, sheet, records.delegations.len(), out, at2)
 }
 
 // Translates a table that was found good, by a sheet of its own.
@@ -47,7 +47,7 @@ fn translate_good(good: &Good<'_>, out: &mut [u8]) -> usize
     let mut order = [0; 256];
     let mut waits = [0; 256];
     good.names.fill(&mut sheet, &mut order, &mut waits);
-    write_key_table(good, &sheet, out)
+    write_key_table(&good.records(), &sheet, out)
 }
 
 // Translates a table to a key table, which it writes at the start of `out`, and returns how many bytes it takes.

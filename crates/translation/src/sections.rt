@@ -8,7 +8,7 @@ ghost use Rattle.table.specs.ReadTable.{table_at, section_bytes};
 ghost use Rattle.translation.specs.Kinds.{Kind, KindLaws};
 ghost use Rattle.translation.specs.Becoming.{BecomesKeyed, Keyed, Puts, RoomFor, Ready, key_table_at};
 
-use matching::good::Good;
+use matching::good::Records;
 
 // How many records are written, and the place after them.
 #[derive(Clone, Copy)]
@@ -26,9 +26,9 @@ pub trait KeyRecord: Copy {
     ghost told: { Self → kind.KeyRecord };
 
     // What record number `i` becomes, if it becomes anything.
-    fn keyed(good: &Good<'_>, sheet: &[u32], i: usize) -> Option<Self>
-        requires { Ready good.now sheet.now × (i < length (kind.records (table_at good.now.names.table.now))) }
-        ensures { Keyed (BecomesKeyed kind good.now.names.table.now i) told result };
+    fn keyed(records: &Records<'_>, sheet: &[u32], i: usize) -> Option<Self>
+        requires { Ready records.now sheet.now × (i < length (kind.records (table_at records.now.table.now))) }
+        ensures { Keyed (BecomesKeyed kind records.now.table.now i) told result };
 
     // Writes the record at the start of `out`, and returns how many bytes it takes.
     fn write(self, out: &mut [u8]) -> usize
@@ -40,17 +40,17 @@ pub trait KeyRecord: Copy {
 
 // Writes what record number `i` becomes behind the records that are written, and counts it.
 fn write_record<K: KeyRecord>(
-    good: &Good<'_>,
+    records: &Records<'_>,
     sheet: &[u32],
     i: usize,
     out: &mut [u8],
     written: Written,
 ) -> Written
-    requires { Ready good.now sheet.now × (i < length (K.kind.records (table_at good.now.names.table.now)))
-        × (written.count ≤ i) × (written.end ≤ length out.old) × RoomFor (BecomesKeyed K.kind good.now.names.table.now i) K.kind.bytes out.old written.end }
-    ensures { Puts (BecomesKeyed K.kind good.now.names.table.now i) K.kind.bytes out.old written out.new result }
+    requires { Ready records.now sheet.now × (i < length (K.kind.records (table_at records.now.table.now)))
+        × (written.count ≤ i) × (written.end ≤ length out.old) × RoomFor (BecomesKeyed K.kind records.now.table.now i) K.kind.bytes out.old written.end }
+    ensures { Puts (BecomesKeyed K.kind records.now.table.now i) K.kind.bytes out.old written out.new result }
 {
-    let Some(record) = K::keyed(good, sheet, i) else {
+    let Some(record) = K::keyed(records, sheet, i) else {
         return written;
     };
     let end = written.end + record.write(&mut out[written.end..]);
@@ -62,42 +62,42 @@ fn write_record<K: KeyRecord>(
 
 // Writes what the `count` records become one behind the other from the place `from` on.
 fn write_records<K: KeyRecord>(
-    good: &Good<'_>,
+    records: &Records<'_>,
     sheet: &[u32],
     count: usize,
     out: &mut [u8],
     from: usize,
 ) -> Written
-    requires { Ready good.now sheet.now × (count ≡ length (K.kind.records (table_at good.now.names.table.now)))
-        × (from + length (many_bytes K.kind.bytes (K.kind.key_records (key_table_at good.now.names.table.now))) ≤ length out.old) }
-    ensures { (result.count ≡ length (K.kind.key_records (key_table_at good.now.names.table.now)))
-        × (result.end ≡ from + length (many_bytes K.kind.bytes (K.kind.key_records (key_table_at good.now.names.table.now))))
-        × (out.new ≡ placed out.old from (many_bytes K.kind.bytes (K.kind.key_records (key_table_at good.now.names.table.now)))) }
+    requires { Ready records.now sheet.now × (count ≡ length (K.kind.records (table_at records.now.table.now)))
+        × (from + length (many_bytes K.kind.bytes (K.kind.key_records (key_table_at records.now.table.now))) ≤ length out.old) }
+    ensures { (result.count ≡ length (K.kind.key_records (key_table_at records.now.table.now)))
+        × (result.end ≡ from + length (many_bytes K.kind.bytes (K.kind.key_records (key_table_at records.now.table.now))))
+        × (out.new ≡ placed out.old from (many_bytes K.kind.bytes (K.kind.key_records (key_table_at records.now.table.now)))) }
 {
     let mut written = Written {
         count: 0,
         end: from,
     };
     for i in 0..count {
-        written = write_record::<K>(good, sheet, i, out, written);
+        written = write_record::<K>(records, sheet, i, out, written);
     }
     written
 }
 
 // Writes the section of what the `count` records become at the place `at`, and returns the place after it.
 pub fn write_section<K: KeyRecord>(
-    good: &Good<'_>,
+    records: &Records<'_>,
     sheet: &[u32],
     count: usize,
     out: &mut [u8],
     at: usize,
 ) -> usize
-    requires { Ready good.now sheet.now × (count ≡ length (K.kind.records (table_at good.now.names.table.now)))
-        × (at + length (section_bytes K.kind.bytes (K.kind.key_records (key_table_at good.now.names.table.now))) ≤ length out.old) }
-    ensures { (result ≡ at + length (section_bytes K.kind.bytes (K.kind.key_records (key_table_at good.now.names.table.now))))
-        × (out.new ≡ placed out.old at (section_bytes K.kind.bytes (K.kind.key_records (key_table_at good.now.names.table.now)))) }
+    requires { Ready records.now sheet.now × (count ≡ length (K.kind.records (table_at records.now.table.now)))
+        × (at + length (section_bytes K.kind.bytes (K.kind.key_records (key_table_at records.now.table.now))) ≤ length out.old) }
+    ensures { (result ≡ at + length (section_bytes K.kind.bytes (K.kind.key_records (key_table_at records.now.table.now))))
+        × (out.new ≡ placed out.old at (section_bytes K.kind.bytes (K.kind.key_records (key_table_at records.now.table.now)))) }
 {
-    let written = write_records::<K>(good, sheet, count, out, at + 1);
+    let written = write_records::<K>(records, sheet, count, out, at + 1);
     put_count(out, at, written)
 }
 

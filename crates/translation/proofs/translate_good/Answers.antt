@@ -4,4 +4,10 @@ use Rattle.translation.proofs.KeyTableLaws.{key_table_fits}
 use Rattle.translation.proofs.translate_good.Goals as goal
 
 pub write_key_table-requires : goal.write_key_table-requires
-write_key_table-requires c = (record { room = omega (arith, c.args.good.now.names.known.few_bindings); exact = c.fill.ensures.exact }, key_table_fits _ c.args.good.now.held.good _ c.requires)
+write_key_table-requires c = (
+  record {
+    room = rw c.records.ensures.packed (omega (arith, c.args.good.now.names.known.few_bindings));
+    exact = rw c.records.ensures.table c.fill.ensures.exact;
+  },
+  rw c.records.ensures.table (key_table_fits _ c.args.good.now.held.good _ c.requires),
+)

@@ -7,4 +7,4 @@ use Rattle.translation.proofs.sections.write_records.Given as goal
 abbrev pub invariant-loop-i : goal.invariant-loop-i
 invariant-loop-i g l =
     let k = g.K.KeyRecord.kind in
-    Writing (k.ToKeys (table_at l.good.names.table.now)) k.bytes (k.records (table_at l.good.names.table.now)) (k.key_records (key_table_at l.good.names.table.now)) l.initial.out l.from l.out l.written l.i
+    Writing (k.ToKeys (table_at l.records.table.now)) k.bytes (k.records (table_at l.records.table.now)) (k.key_records (key_table_at l.records.table.now)) l.initial.out l.from l.out l.written l.i

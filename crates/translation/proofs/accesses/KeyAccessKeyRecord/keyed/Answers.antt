@@ -5,13 +5,13 @@ use Rattle.translation.proofs.BecomingLaws.{access_omitted, access_becomes}
 use Rattle.translation.proofs.accesses.KeyAccessKeyRecord.keyed.Goals as goal
 
 pub access-access-requires : goal.access-access-requires
-access-access-requires c = omega (arith, c.requires.1, c.args.good.now.held.access_count)
+access-access-requires c = omega (arith, c.requires.1, c.args.records.now.held.access_count)
 
 pub follow_name-requires : goal.follow_name-requires
 follow_name-requires c = (c.requires.0.room, c.access-access.ensures.owner, c.access-access.ensures.path)
 
 pub returns-in_err-subject : goal.returns-in_err-subject
-returns-in_err-subject c = rw c.from_residual.ensures (access_omitted _ _ c.requires.0 _ _ c.access-access.ensures _ (c.in_err-subject.ensures _ c.args.good.now.held.index) refl)
+returns-in_err-subject c = rw c.from_residual.ensures (access_omitted _ _ c.requires.0 _ _ c.access-access.ensures _ (c.in_err-subject.ensures _ c.args.records.now.held.index) refl)
 
 pub returns : goal.returns
-returns c = access_becomes _ _ c.requires.0 _ _ c.access-access.ensures _ (c.in_ok-subject.ensures _ c.args.good.now.held.index) _ refl
+returns c = access_becomes _ _ c.requires.0 _ _ c.access-access.ensures _ (c.in_ok-subject.ensures _ c.args.records.now.held.index) _ refl
