@@ -8,6 +8,16 @@ use crate::reader::number_at;
 use rules::{Depth, Key, Space};
 use wire::glancing::glance_at;
 
+pub const MOST_KEY: u32 = 4294967295;
+
+pub const MOST_BASE: u32 = 65535;
+
+pub const MOST_OBJECT: u32 = 65535;
+
+pub const MOST_RIGHT: u32 = 32;
+
+pub const MOST_NAMES: u32 = 4;
+
 // What a record is for: an object and a right.
 #[derive(Clone, Copy, PartialEq, Eq)]
 pub struct Use {
@@ -51,28 +61,28 @@ pub struct Bounds {
 
 pub const KEY: Bounds = Bounds {
     low: 1,
-    high: 4294967295,
+    high: MOST_KEY,
     more: 4,
     last: 15,
 };
 
 pub const OBJECT: Bounds = Bounds {
     low: 0,
-    high: 65535,
+    high: MOST_OBJECT,
     more: 2,
     last: 3,
 };
 
 pub const RIGHT: Bounds = Bounds {
     low: 1,
-    high: 32,
+    high: MOST_RIGHT,
     more: 0,
     last: 32,
 };
 
 pub const BASE: Bounds = Bounds {
     low: 1,
-    high: 65535,
+    high: MOST_BASE,
     more: 2,
     last: 3,
 };
@@ -80,13 +90,14 @@ pub const BASE: Bounds = Bounds {
 // The length of a path.
 pub const LENGTH: Bounds = Bounds {
     low: 0,
-    high: 4,
+    high: MOST_NAMES,
     more: 0,
     last: 4,
 };
 
 impl Bounds {
     // The number at the place `at`, if a glance tells that it is in these bounds.
+    #[inline(always)]
     pub fn glance(self, s: &[u8], at: usize) -> Option<(u32, usize)>
         ensures { IfSome result (λ seen. field self.low self.high s.now at ≡ got seen.0 seen.1) }
     {
@@ -94,6 +105,7 @@ impl Bounds {
     }
 
     // The number at the place `at`, which is to be in these bounds.
+    #[inline(always)]
     pub fn read(self, s: &[u8], at: usize) -> Result<(u32, usize), Fault>
         ensures { result ≡ found (field self.low self.high s.now at) }
     {
