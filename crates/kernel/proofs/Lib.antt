@@ -1,4 +1,5 @@
 -- Laws of what a host is told.
+pub mod AnswersLaws
 pub mod FitsLaws
 pub mod PlacesLaws
 pub mod Theorems
