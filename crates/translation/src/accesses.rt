@@ -17,9 +17,9 @@ impl KeyRecord for KeyAccess {
     // What access record number `i` becomes, unless its path has no meaning.
     fn keyed(records: &Records<'_>, sheet: &[u32], i: usize) -> Option<KeyAccess> {
         let access = records.access(i);
-        let subject = records
-            .lookup
-            .follow_name(sheet, access.owner, access.path)?;
+        let Some(subject) = records.lookup.follow_name(sheet, access.owner, access.path) else {
+            return None;
+        };
         Some(KeyAccess {
             owner: Key(records.lookup.keys[access.owner.0]),
             wanted: access.wanted,

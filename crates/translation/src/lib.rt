@@ -26,6 +26,17 @@ pub enum Refusal {
     Room,
 }
 
+// A table with a fault is not translated.
+impl From<Fault> for Refusal {
+    ghost use Rattle.translation.specs.declared.Refusal.TheVariants as refusal;
+
+    ghost from_gives = { λ e r. r ≡ refusal.Table e };
+
+    fn from(fault: Fault) -> Refusal {
+        Refusal::Table(fault)
+    }
+}
+
 // Writes the key table at the start of `out`, and returns how many bytes it takes.
 fn write_key_table(records: &Records<'_>, sheet: &[u32], out: &mut [u8]) -> usize
     requires { Ready records.now sheet.now × (length (key_table_bytes (key_table_at records.now.table.now)) ≤ length out.old) }
@@ -55,7 +66,7 @@ pub fn translate(table: &[u8], out: &mut [u8]) -> Result<usize, Refusal>
     ensures { Answers table.now out.old result out.new }
 {
     let mut rows = Rows::new();
-    let good = rows.open(table).map_err(Refusal::Table)?;
+    let good = rows.open(table)?;
     if out.len() < MOST_KEY_TABLE {
         return Err(Refusal::Room);
     }

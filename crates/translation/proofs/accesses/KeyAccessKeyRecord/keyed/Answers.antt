@@ -1,5 +1,4 @@
 -- `keyed` follows the record's name by the sheet, and takes the owner's key by its number.
-use mathlib.Core.Path.{refl}
 use native.Mathlib.Omega.{arith}
 use Rattle.translation.proofs.BecomingLaws.{access_omitted, access_becomes}
 use Rattle.translation.proofs.accesses.KeyAccessKeyRecord.keyed.Goals as goal
@@ -10,8 +9,8 @@ access-access-requires c = omega (arith, c.requires.1, c.args.records.now.held.a
 pub follow_name-requires : goal.follow_name-requires
 follow_name-requires c = (c.requires.0.room, c.access-access.ensures.owner, c.access-access.ensures.path)
 
-pub returns-in_err-subject : goal.returns-in_err-subject
-returns-in_err-subject c = rw c.from_residual.ensures (access_omitted _ _ c.requires.0 _ _ c.access-access.ensures _ (c.in_err-subject.ensures _ c.args.records.now.held.index) refl)
+pub returns-in_default : goal.returns-in_default
+returns-in_default c = access_omitted _ _ c.requires.0 _ _ c.access-access.ensures _ (c.follow_name.ensures _ c.args.records.now.held.index) c.in_default.is
 
 pub returns : goal.returns
-returns c = access_becomes _ _ c.requires.0 _ _ c.access-access.ensures _ (c.in_ok-subject.ensures _ c.args.records.now.held.index) _ refl
+returns c = access_becomes _ _ c.requires.0 _ _ c.access-access.ensures _ (c.follow_name.ensures _ c.args.records.now.held.index) _ c.in-Some.is
