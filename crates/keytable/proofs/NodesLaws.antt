@@ -1,5 +1,5 @@
 -- A node is found by following its slot from the last node to the first; one more node becomes the first of its slot.
-use mathlib.Core.Path.{◌≡◌, refl, sym, ◌∙◌, ap, subst}
+use mathlib.Core.Path.{◌≡◌, sym, ◌∙◌, ap, subst}
 use mathlib.Core.Bool.{false}
 use mathlib.Core.List.{List, []}
 use Rattle.std.specs.Prelude.{Option, Some, None, is_some}
@@ -7,12 +7,12 @@ use Prim.Native.Nat.{ℕ, suc, ◌+◌, ◌-◌, ◌<◌, ◌≤◌}
 use native.Mathlib.Nat.{le_refl}
 use native.Mathlib.Omega.{arith}
 use native.Mathlib.Decide.{ℕ_discrete}
-use lib.ListN.{length, take, set, length-set, length-take}
-use lib.Seq.{get_or-set_same, get_or-set_other, get_or-take, length-take-le}
+use lib.ListN.{length, take, set, length-set}
+use lib.Seq.{get_or-set_same, get_or-set_other, length-take-le}
 use Rattle.rules.specs.Lists.{◌▷◌}
 use Rattle.rules.specs.Sheets.{entry}
 use Rattle.rules.specs.declared.Key.{Key}
-use Rattle.keytable.specs.Nodes.{slots, slot, IsNode, HasNode, Leads, Nodes, FindsNode, node, nobody, Grown}
+use Rattle.keytable.specs.Nodes.{slots, slot, IsNode, HasNode, Leads, Nodes, FindsNode, node, nobody, Grown, GrownRows}
 use Rattle.keytable.proofs.RowsLaws.{longer, entry_before, entry_last, written_last}
 
 -- ---- finding
@@ -55,16 +55,13 @@ module _ (nodes heads nexts : List ℕ) (w : Nodes nodes heads nexts) (k : Key) 
   pub seeking_end : (x : ℕ) → Seeking nodes k.0 x → x ≤ 0 → FindsNode nodes k None
   seeking_end x sk h = nobody (λ m. absurd (omega (arith, sk.all m.0 m.1.there m.1.is)))
 
--- The nodes are the first so many keys of a row.
-module _ (keys heads nexts : List ℕ) (n : ℕ) (w : Nodes (take n keys) heads nexts) (k : Key) (x : ℕ) (sk : Seeking (take n keys) k.0 x) (h : 0 < x) where
-  shown : entry (take n keys) (x - 1) ≡ entry keys (x - 1)
-  shown = get_or-take n keys (x - 1) 0 (omega (arith, seeking_below (take n keys) heads nexts w k x sk h, length-take n keys))
+-- As code takes the node before the number.
+module _ (nodes heads nexts : List ℕ) (w : Nodes nodes heads nexts) (k : Key) (x : ℕ) (sk : Seeking nodes k.0 x) (h : 0 < x) where
+  pub row_found : (v : ℕ) → v ≡ x - 1 → entry nodes v ≡ k.0 → FindsNode nodes k (Some v)
+  row_found v is e = rw is (seeking_found nodes heads nexts w k x sk h (rw is at e))
 
-  pub row_found : (v : ℕ) → v ≡ x - 1 → entry keys v ≡ k.0 → FindsNode (take n keys) k (Some v)
-  row_found v is e = rw is (seeking_found (take n keys) heads nexts w k x sk h (shown ∙ (rw is at e)))
-
-  pub row_on : (v next : ℕ) → v ≡ x - 1 → next ≡ entry nexts v → (entry keys v ≡ k.0 → ⊥) → Seeking (take n keys) k.0 next
-  row_on v next is leads m = rw (leads, is) (seeking_on (take n keys) heads nexts w k x sk h (λ e. m (rw is (sym shown ∙ e))))
+  pub row_on : (v next : ℕ) → v ≡ x - 1 → next ≡ entry nexts v → (entry nodes v ≡ k.0 → ⊥) → Seeking nodes k.0 next
+  row_on v next is leads m = rw (leads, is) (seeking_on nodes heads nexts w k x sk h (λ e. m (rw is e)))
 
 -- ---- adding
 pub nodes_none : (heads nexts : List ℕ) → length heads ≡ slots → ((s : ℕ) → s < slots → entry heads s ≡ 0) → Nodes [] heads nexts
@@ -147,11 +144,11 @@ module _ (nodes heads nexts : List ℕ) (w : Nodes nodes heads nexts) (k : Key) 
   pub has_now : HasNode (nodes ▷ k.0) k
   has_now = (length nodes, record { there = omega (arith, longer nodes k.0); is = entry_last nodes k.0 })
 
-  pub no_more : Grown nodes nodes
-  no_more = record { apart = w.apart; kept = λ v m i. i }
+  pub no_more : GrownRows nodes nodes heads nexts
+  no_more = record { are = w; kept = λ v m i. i }
 
-pub fewer : (keys nodes : List ℕ) (n most : ℕ) → take n keys ≡ nodes → length nodes < most → n ≤ most → length keys ≡ most → n < most
-fewer keys nodes n most e h m l = omega (arith, ap length e, length-take n keys)
+pub grown_of : {before nodes heads nexts : List ℕ} → GrownRows before nodes heads nexts → Grown before nodes
+grown_of g = record { apart = g.are.apart; kept = g.kept }
 
 -- One node more, as code makes it.
 module _ (keys heads nexts : List ℕ) (n : ℕ) (w : Nodes (take n keys) heads nexts) (k : Key) (room : n < length keys) (link : n < length nexts) where
@@ -163,8 +160,9 @@ module _ (keys heads nexts : List ℕ) (n : ℕ) (w : Nodes (take n keys) heads 
       (subst (λ (m : ℕ). Nodes (take n keys ▷ k.0) (set heads (slot k.0) (m + 1)) (set nexts m (entry heads (slot k.0)))) counted
       (one_more (take n keys) heads nexts w k new (omega (arith, counted, link))))
 
-  pub added_grown : (HasNode (take n keys) k → ⊥) → Grown (take n keys) (take (n + 1) (set keys n k.0))
-  added_grown new = record { apart = (added new (slot k.0) refl).apart; kept = rw (written_last keys n k.0 room) (still_node (take n keys) heads nexts w k) }
+  pub added_grown : (HasNode (take n keys) k → ⊥) → (s : ℕ) → s ≡ slot k.0
+      → GrownRows (take n keys) (take (n + 1) (set keys n k.0)) (set heads s (n + 1)) (set nexts n (entry heads s))
+  added_grown new s q = record { are = added new s q; kept = rw (written_last keys n k.0 room) (still_node (take n keys) heads nexts w k) }
 
   pub added_has : HasNode (take (n + 1) (set keys n k.0)) k
   added_has = rw (written_last keys n k.0 room) (has_now (take n keys) heads nexts w k)

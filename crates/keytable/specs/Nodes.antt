@@ -54,3 +54,8 @@ pub data FindsNode (nodes : List ℕ) (k : Key) : Option ℕ → Type 0 where
 pub record Grown (before nodes : List ℕ) : Type 0 where
   pub apart : Apart nodes
   pub kept : (v : ℕ) (k : Key) → IsNode before v k → IsNode nodes v k
+
+-- The same of rows, with what leads to the nodes.
+pub record GrownRows (before nodes heads nexts : List ℕ) : Type 0 where
+  pub are : Nodes nodes heads nexts
+  pub kept : (v : ℕ) (k : Key) → IsNode before v k → IsNode nodes v k

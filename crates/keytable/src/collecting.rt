@@ -7,7 +7,6 @@ ghost use Rattle.keytable.specs.Nodes.{most_nodes, Empty, Apart, Grown};
 ghost use Rattle.keytable.specs.Matching.{key_request_of, Writers, Given, DrawnOf, MatchedOf};
 
 use crate::kinds::KeyRecord;
-use crate::matching::{take_access, take_delegation, take_writer};
 use crate::nodes::KeyNodes;
 use records::requests::KeyRequest;
 
@@ -40,7 +39,7 @@ fn collect_nodes(kept: &KeptTable<'_>, nodes: &mut KeyNodes)
     ensures few { length nodes.new ≤ most_nodes }
 {
     for place in kept.delegations {
-        take_writer(kept.request, record_at(kept.table, *place), nodes);
+        nodes.take_writer(kept.request, record_at(kept.table, *place));
     }
 }
 
@@ -52,7 +51,7 @@ fn collect_edges(kept: &KeptTable<'_>, nodes: &KeyNodes, edges: &mut [u32]) -> u
 {
     let mut m = 0;
     for place in kept.delegations {
-        m = take_delegation(kept.request, record_at(kept.table, *place), nodes, edges, m);
+        m = nodes.take_delegation(kept.request, record_at(kept.table, *place), edges, m);
     }
     m
 }
@@ -63,7 +62,7 @@ fn collect_codes(kept: &KeptTable<'_>, nodes: &KeyNodes, best: &mut [u8])
     ensures { Given (asked_at kept.now.table.now (key_request_of kept.now.request).asked) (key_request_of kept.now.request).asked nodes.now (length (asked_at kept.now.table.now (key_request_of kept.now.request).asked).accesses) best.new }
 {
     for place in kept.accesses {
-        take_access(kept.request, record_at(kept.table, *place), nodes, best);
+        nodes.take_access(kept.request, record_at(kept.table, *place), best);
     }
 }
 

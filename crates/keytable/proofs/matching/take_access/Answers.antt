@@ -9,10 +9,10 @@ pub returns-then-not-is_asked : goal.returns-then-not-is_asked
 returns-then-not-is_asked c = code_other _ _ _ _ _ c.is_asked.ensures c.if-not-is_asked.true
 
 pub returns-in_default : goal.returns-in_default
-returns-in_default c = code_nobody _ _ _ _ _ c.is_asked.ensures _ c.find.ensures.finds c.in_default.is
+returns-in_default c = code_nobody _ _ _ _ _ c.is_asked.ensures _ c.find_node.ensures c.in_default.is
 
 pub returns-then-code-best : goal.returns-then-code-best
-returns-then-code-best c = code_enough _ _ _ _ _ c.is_asked.ensures _ c.find.ensures.finds _ _ c.in-Some.is (add-one _ ∙ ap suc c.number.ensures) c.find.ensures.apart c.if-code-best.true
+returns-then-code-best c = code_enough _ _ _ _ _ c.is_asked.ensures _ c.find_node.ensures _ _ c.in-Some.is (add-one _ ∙ ap suc c.number.ensures) c.requires.0.apart c.if-code-best.true
 
 pub returns : goal.returns
-returns c = code_given _ _ _ _ _ c.is_asked.ensures _ c.find.ensures.finds _ _ c.in-Some.is (add-one _ ∙ ap suc c.number.ensures) c.if-not-is_asked.false c.if-code-best.false
+returns c = code_given _ _ _ _ _ c.is_asked.ensures _ c.find_node.ensures _ _ c.in-Some.is (add-one _ ∙ ap suc c.number.ensures) c.if-not-is_asked.false c.if-code-best.false

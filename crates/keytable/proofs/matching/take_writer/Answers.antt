@@ -2,5 +2,5 @@
 use Rattle.keytable.proofs.MatchingLaws.{asks_no}
 use Rattle.keytable.proofs.matching.take_writer.Goals as goal
 
-pub returns-else-is_asked-clause-has : goal.returns-else-is_asked-clause-has
-returns-else-is_asked-clause-has c = λ w. absurd (asks_no _ _ _ _ c.is_asked.ensures c.if-is_asked.false w)
+pub returns-clause-has : goal.returns-clause-has
+returns-clause-has c = λ w. absurd (asks_no _ _ _ _ c.is_asked.ensures c.if-is_asked.false w)

@@ -1,0 +1,6 @@
+-- `take_writer` takes it in the rows.
+use Rattle.keytable.proofs.NodesLaws.{grown_of}
+use Rattle.keytable.proofs.nodes.KeyNodes.take_writer.Goals as goal
+
+pub returns-clause-grown : goal.returns-clause-grown
+returns-clause-grown c = rw (← c.self.view_is, ← c.from-n.ensures) (grown_of c.take_writer.ensures.grown)
