@@ -1,18 +1,20 @@
--- Reading the digits of a word from the front.
+-- Reading the digits of a word from the front, and the library's `==` of two words.
 use mathlib.Core.Path.{◌≡◌, refl, sym, ◌∙◌, ap}
-use mathlib.Core.Bool.{Bool, true, false}
+use mathlib.Core.Bool.{Bool, true, false, ◌&&◌}
 use mathlib.Core.Logic.{◌⊎◌, inl, inr}
 use mathlib.Core.List.{List, [], ◌∷◌}
 use Prim.Native.Nat.{ℕ, suc, ◌+◌, ◌-◌, ◌*◌, ◌<◌, ◌≤◌}
 use native.Mathlib.Omega.{arith}
 use Rattle.std.proofs.Common.{add-one}
-use lib.Dec.{ltb}
+use lib.Dec.{ltb, eqb}
 use lib.ListN.{length, get_or, drop}
 use lib.Seq.{drop-cons, drop-length}
 use borrow.Author.Tests.{lt-ltb, le-ltb}
 use Rattle.wire.specs.Number.{most_number}
-use Rattle.review.specs.Words.{digits_after, number_said}
+use Rattle.review.specs.Words.{digits_after, number_said, alike}
 use Rattle.std.specs.Prelude.{Some, None}
+use Rattle.std.specs.Cmp.Lexicographic.{pointwise}
+use Rattle.rules.specs.Choice.{pick}
 
 -- ---- the digits of a word, of which the first `i` said `v`
 pub record Reading (s : List ℕ) (v i : ℕ) : Type 0 where
@@ -60,3 +62,15 @@ module _ (s : List ℕ) (v i : ℕ) (r : Reading s v i) (h : i < length s) (d : 
       where
         goes : number_said s ≡ digits_after w (drop (suc i) s)
         goes = here ∙ simp (le-ltb d 48 low, le-ltb 57 d high, ← is, le-ltb most_number w g)
+
+-- ---- what `==` says of two words
+pub pointwise_alike : (s t : List ℕ) → pointwise eqb s t ≡ alike s t
+unfolding alike
+pointwise_alike [] [] = refl
+pointwise_alike [] (b ∷ t) = refl
+pointwise_alike (a ∷ s) [] = refl
+pointwise_alike (a ∷ s) (b ∷ t) = go (eqb a b) (pointwise_alike s t)
+  where
+    go : (x : Bool) → pointwise eqb s t ≡ alike s t → (x && pointwise eqb s t) ≡ pick x (alike s t) false
+    go true e = e
+    go false e = refl

@@ -1,5 +1,5 @@
 -- What words say.
-use Rattle.std.specs.Prelude.{List, [], ◌∷◌, ℕ, ◌+◌, ◌-◌, ◌*◌, ltb, Option, Some, None}
+use Rattle.std.specs.Prelude.{Bool, true, false, List, [], ◌∷◌, ℕ, ◌+◌, ◌-◌, ◌*◌, ltb, eqb, Option, Some, None}
 use Rattle.rules.specs.Choice.{pick}
 use Rattle.wire.specs.Number.{most_number}
 
@@ -13,3 +13,10 @@ digits_after value (d ∷ s) =
 unfoldable pub number_said : List ℕ → Option ℕ
 number_said [] = None
 number_said (d ∷ s) = digits_after 0 (d ∷ s)
+
+-- Whether two words are the same.
+unfoldable pub alike : List ℕ → List ℕ → Bool
+alike [] [] = true
+alike [] (b ∷ t) = false
+alike (a ∷ s) [] = false
+alike (a ∷ s) (b ∷ t) = pick (eqb a b) (alike s t) false

@@ -1,9 +1,16 @@
 // The words that the program was started with, by their number.
 ghost use Rattle.std.specs.Prelude.{◌≡◌};
-ghost use Rattle.review.specs.Words.{number_said};
+ghost use Rattle.review.specs.Words.{number_said, alike};
 
 use std::env::FillError;
 use std::rt::Env;
+
+// Whether both are the same bytes.
+fn same(first: &[u8], second: &[u8]) -> bool
+    ensures { result ≡ alike first.now second.now }
+{
+    first == second
+}
 
 // How many words there are, the program's own name among them.
 pub fn word_count(rt: &impl Env) -> usize {
@@ -20,7 +27,7 @@ pub fn word_count(rt: &impl Env) -> usize {
 pub fn is_word(rt: &impl Env, i: usize, text: &[u8]) -> bool {
     let mut word = [0u8; 16];
     let found = rt.arg(i, &mut word);
-    found.is_ok_and(|length| &word[..length] == text)
+    found.is_ok_and(|length| same(&word[..length], text))
 }
 
 // The number that decimal digits say, unless it is above 4,294,967,295.
