@@ -1,5 +1,5 @@
 // Parts of a case, on standard input: each its length in 4 bytes, lowest first, and its bytes.
-ghost use Rattle.std.specs.Prelude.{◌≤◌, length, IfOk};
+ghost use Rattle.std.specs.Prelude.{◌≡◌, ◌+◌, ◌*◌, ◌≤◌, length, slice_index, IfOk};
 
 use std::fmt;
 use std::io::Read;
@@ -23,6 +23,13 @@ impl fmt::Display for Stopped {
     }
 }
 
+// The number that stands in these 4 bytes, lowest first.
+fn number_of(four: [u8; 4]) -> usize
+    ensures { result ≡ slice_index four 0 + 256 * (slice_index four 1 + 256 * (slice_index four 2 + 256 * slice_index four 3)) }
+{
+    u32::from_le_bytes(four) as usize
+}
+
 // Reads bytes until the buffer is full.
 fn fill<R: Read>(input: &mut R, buffer: &mut [u8]) -> Result<(), Stopped> {
     if read_full(input, buffer) < buffer.len() {
@@ -37,8 +44,7 @@ pub fn read_part<'a, R: Read>(input: &mut R, buffer: &'a mut [u8]) -> Result<&'a
 {
     let mut four = [0; 4];
     fill(input, &mut four)?;
-    let count = u32::from_le_bytes(four) as usize;
-    let Some(part) = buffer.get_mut(..count) else {
+    let Some(part) = buffer.get_mut(..number_of(four)) else {
         return Err(Stopped::TooLong);
     };
     fill(input, part)?;
