@@ -27,7 +27,7 @@ fn explain_step(rt: &impl Print, opened: &OpenTable, j: usize, before: Depth) ->
     if opened.good.delegations.len() <= j {
         return None;
     }
-    let by = recount_delegation(rt, opened, j);
+    let by = recount_delegation(rt, &opened.good.records(), opened.sheet, j);
     let after = step(before, by)?;
     say_depth(rt, after);
     Some(after)
@@ -71,7 +71,7 @@ pub fn explain_chain(
     if opened.good.accesses.len() <= i {
         return;
     }
-    let depth = recount_access(rt, opened, i);
+    let depth = recount_access(rt, &opened.good.records(), opened.sheet, i);
     say_depth(rt, depth);
     explain_steps(rt, opened, derivation, from, count, depth);
 }

@@ -1,7 +1,7 @@
 // A request and its derivation: who asks for what, the bindings that the derivation lists, and its chain.
 use crate::chains::explain_chain;
 use crate::names::{InWords, say_space, say_way};
-use crate::opened::OpenTable;
+use crate::opened::{Meanings, OpenTable};
 use crate::printing::say;
 use crate::recounting::recount_binding;
 use records::derivations::read_derivation;
@@ -24,7 +24,7 @@ fn explain_bindings(
         };
         let i = value as usize;
         if i < opened.good.names.packed.len() {
-            recount_binding(rt, opened, i);
+            recount_binding(rt, &opened.good.names, opened.sheet, i);
         }
         at = next;
     }
@@ -32,16 +32,21 @@ fn explain_bindings(
 
 // Who asks for what, and which key that is.
 fn explain_request(rt: &impl Print, opened: &OpenTable, request: &[u8]) {
-    let Some(asked) = read_request(request, opened.good.names.keys.len()) else {
+    let names = &opened.good.names;
+    let Some(asked) = read_request(request, names.keys.len()) else {
         return;
     };
     let Use { object, right } = asked.wanted;
     let subject = InWords(asked.subject);
     say!(rt; "Asked: {subject}, right {right} on object {object} of ");
-    say_space(rt, opened, asked.owner);
+    say_space(rt, names.keys, asked.owner);
     say!(rt; "\n");
     if let Target::Name(space, path) = asked.subject {
-        say_way(rt, opened, space, path);
+        let meanings = Meanings {
+            lookup: names.lookup(),
+            sheet: opened.sheet,
+        };
+        say_way(rt, &meanings, space, path);
     }
 }
 

@@ -2,7 +2,8 @@
 ghost use Rattle.std.specs.Prelude.{◌<◌, length};
 ghost use Rattle.sheet.specs.Finds.{Fitting};
 
-use crate::opened::OpenTable;
+use crate::finding::meaning_at;
+use crate::opened::Meanings;
 use crate::printing::say;
 use records::paths::Path;
 use records::targets::Target;
@@ -42,27 +43,27 @@ impl fmt::Display for InWords<Target> {
 }
 
 // A space with its key.
-pub fn say_space(rt: &impl Print, opened: &OpenTable, space: Space)
-    requires { space.0 < length opened.now.good.names.keys.now }
+pub fn say_space(rt: &impl Print, keys: &[u32], space: Space)
+    requires { space.0 < length keys.now }
 {
     let number = space.0;
-    say!(rt; "space {number} (key {})", opened.good.names.keys[number]);
+    say!(rt; "space {number} (key {})", keys[number]);
 }
 
 // Follows one name from the key, and says the binding that it goes through, or why there is none.
-fn go_on(rt: &impl Print, opened: &OpenTable, from: Key, base: u32) -> Option<Key>
+fn go_on(rt: &impl Print, meanings: &Meanings, from: Key, base: u32) -> Option<Key>
     requires { base < 65536 }
 {
-    let Some(space) = find_space(opened.good.names.keys, from) else {
+    let Some(space) = find_space(meanings.lookup.keys, from) else {
         say!(rt; " -> no space has this key, so there is no meaning");
         return None;
     };
-    let Some(i) = find_binding(opened.good.names.packed, space, base) else {
+    let Some(i) = find_binding(meanings.lookup.packed, space, base) else {
         say!(rt; " -> its space does not bind {base}, so there is no meaning");
         return None;
     };
     say!(rt; " -> binding {i} -> ");
-    let meaning = opened.meaning_at(i);
+    let meaning = meaning_at(meanings.sheet, i);
     if meaning.is_none() {
         say!(rt; "no meaning");
     }
@@ -70,23 +71,23 @@ fn go_on(rt: &impl Print, opened: &OpenTable, from: Key, base: u32) -> Option<Ke
 }
 
 // Follows the path from the key, and says the bindings that it goes through and the keys that they mean.
-fn go_through(rt: &impl Print, opened: &OpenTable, from: Key, path: Path)
+fn go_through(rt: &impl Print, meanings: &Meanings, from: Key, path: Path)
     requires { Fitting path }
 {
     say!(rt; "key {}", from.0);
     if path.length == 0 {
         return;
     }
-    if let Some(key) = go_on(rt, opened, from, path.first) {
-        go_through(rt, opened, key, rest_of(path));
+    if let Some(key) = go_on(rt, meanings, from, path.first) {
+        go_through(rt, meanings, key, rest_of(path));
     }
 }
 
 // A line of the name: from its space's key, the bindings that it goes through and the keys that they mean.
-pub fn say_way(rt: &impl Print, opened: &OpenTable, space: Space, path: Path)
-    requires { (space.0 < length opened.now.good.names.keys.now) × Fitting path }
+pub fn say_way(rt: &impl Print, meanings: &Meanings, space: Space, path: Path)
+    requires { (space.0 < length meanings.now.lookup.keys.now) × Fitting path }
 {
     say!(rt; "      {}: ", InWords(Target::Name(space, path)));
-    go_through(rt, opened, Key(opened.good.names.keys[space.0]), path);
+    go_through(rt, meanings, Key(meanings.lookup.keys[space.0]), path);
     say!(rt; "\n");
 }

@@ -5,6 +5,7 @@ ghost use Rattle.sheet.specs.Finds.{Fitting};
 use crate::answers::say_answer;
 use crate::columns::{key_column, path_column};
 use crate::files::read_file;
+use crate::finding::{binding_at, meaning_at};
 use crate::names::InWords;
 use crate::opened::OpenTable;
 use crate::opening::open;
@@ -25,9 +26,9 @@ fn key_of(opened: &OpenTable, space: Space, path: Path) -> Option<Key>
 }
 
 // The spaces, each with its key.
-fn show_spaces(rt: &impl Print, opened: &OpenTable) {
+fn show_spaces(rt: &impl Print, keys: &[u32]) {
     say!(rt; "  space         key\n");
-    for (i, key) in opened.good.names.keys.iter().enumerate() {
+    for (i, key) in keys.iter().enumerate() {
         say!(rt; "{i:7}{key:12}\n");
     }
 }
@@ -36,9 +37,9 @@ fn show_spaces(rt: &impl Print, opened: &OpenTable) {
 fn show_binding(rt: &impl Print, opened: &OpenTable, i: usize)
     requires { i < length opened.now.good.names.packed.now }
 {
-    let binding = opened.binding_at(i);
+    let binding = binding_at(&opened.good.names, i);
     say!(rt; "{i:9}{:7}{:7}", binding.space.0, binding.base);
-    key_column(rt, opened.meaning_at(i));
+    key_column(rt, meaning_at(opened.sheet, i));
     say!(rt; "  {}\n", InWords(binding.target));
 }
 
@@ -97,7 +98,7 @@ fn show_delegations(rt: &impl Print, opened: &OpenTable) {
 // The whole table.
 fn show(rt: &impl Print, opened: &OpenTable) {
     say_answer(rt, DONE);
-    show_spaces(rt, opened);
+    show_spaces(rt, opened.good.names.keys);
     show_bindings(rt, opened);
     show_accesses(rt, opened);
     show_delegations(rt, opened);
