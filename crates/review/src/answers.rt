@@ -2,6 +2,12 @@
 use crate::printing::say;
 use kernel::answers::{Answer, WRONG_REQUEST};
 
+pub const WRONG_USE: u32 = 64;
+
+pub const NO_INPUT: u32 = 66;
+
+pub const NO_OUTPUT: u32 = 73;
+
 // The name of an answer, and what it means in a sentence. The numbers are those that C gets.
 fn words_of(number: u32) -> (&'static str, &'static str) {
     match number {

@@ -9,11 +9,7 @@ use crate::writing::{put_key_request, put_request};
 use std::rt::{Env, Files};
 
 // The request that the words from number `first` on say, or the file that the only one of them names.
-pub fn ask(
-    rt: &(impl Env + Files + Print),
-    buffer: &mut [u8],
-    first: usize,
-) -> Result<usize, Trouble>
+pub fn ask(rt: &(impl Env + Files), buffer: &mut [u8], first: usize) -> Result<usize, Trouble>
     ensures { IfOk result (λ n. IsPrefixLen n buffer.new) }
 {
     let end = word_count(rt);
@@ -25,7 +21,7 @@ pub fn ask(
 
 // The same for a key request. A function taken as a parameter would need a contract longer than what it saves.
 pub fn ask_by_keys(
-    rt: &(impl Env + Files + Print),
+    rt: &(impl Env + Files),
     buffer: &mut [u8],
     first: usize,
 ) -> Result<usize, Trouble>

@@ -16,11 +16,11 @@ fn digits(number: u32) -> usize
     number.max(1).ilog10() as usize + 1
 }
 
-// Writes the key, if there is one, at the right end of a column.
-pub fn key_column(rt: &impl Print, key: Option<Key>) {
+// Writes the key, if there is one, at the right end of a column of this width.
+pub fn key_column(rt: &impl Print, width: usize, key: Option<Key>) {
     match key {
-        None => say!(rt; "{:>12}", "-"),
-        Some(key) => say!(rt; "{:12}", key.0),
+        None => say!(rt; "{:>width$}", "-"),
+        Some(key) => say!(rt; "{:width$}", key.0),
     }
 }
 

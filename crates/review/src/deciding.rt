@@ -41,7 +41,11 @@ fn grant(
 }
 
 // Answers a request by a table. From Unnamed on it was read, and what the subject's name goes through is told.
-fn answer(rt: &(impl Env + Files + Print), table: &[u8], request: &[u8]) -> Result<(), Trouble> {
+pub fn answer(
+    rt: &(impl Env + Files + Print),
+    table: &[u8],
+    request: &[u8],
+) -> Result<(), Trouble> {
     let mut sheet = [0u32; 256];
     let mut derivation = [0u8; 512];
     let told = rustamgheb_decide(table, request, &mut sheet, &mut derivation);

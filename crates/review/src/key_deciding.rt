@@ -10,7 +10,7 @@ use std::rt::{Env, Files};
 use streams::large_buffer;
 
 // Answers a key request by a key table.
-fn answer(rt: &impl Print, table: &[u8], request: &[u8]) {
+pub fn answer(rt: &impl Print, table: &[u8], request: &[u8]) {
     let told = rustamgheb_decide_by_keys(table, request);
     if told.number != DONE {
         say_refusal(rt, told);

@@ -39,7 +39,7 @@ fn show_binding(rt: &impl Print, opened: &OpenTable, i: usize)
 {
     let binding = binding_at(&opened.good.names, i);
     say!(rt; "{i:9}{:7}{:7}", binding.space.0, binding.base);
-    key_column(rt, meaning_at(opened.sheet, i));
+    key_column(rt, 12, meaning_at(opened.sheet, i));
     say!(rt; "  {}\n", InWords(binding.target));
 }
 
@@ -59,7 +59,7 @@ fn show_access(rt: &impl Print, opened: &OpenTable, i: usize)
     let Use { object, right } = access.wanted;
     let depth = access.depth.number();
     say!(rt; "{i:15}{:7}{object:8}{right:7}{depth:7}", access.owner.0);
-    key_column(rt, key_of(opened, access.owner, access.path));
+    key_column(rt, 12, key_of(opened, access.owner, access.path));
     say!(rt; "  {}\n", InWords(access.path));
 }
 
@@ -80,8 +80,8 @@ fn show_delegation(rt: &impl Print, opened: &OpenTable, j: usize)
     let depth = delegation.depth.number();
     let writer = delegation.writer;
     say!(rt; "{j:12}{:8}{object:8}{right:7}{depth:7}", writer.0);
-    key_column(rt, key_of(opened, writer, delegation.owner));
-    key_column(rt, key_of(opened, writer, delegation.delegatee));
+    key_column(rt, 12, key_of(opened, writer, delegation.owner));
+    key_column(rt, 12, key_of(opened, writer, delegation.delegatee));
     say!(rt; "  ");
     path_column(rt, delegation.owner);
     say!(rt; "  {}\n", InWords(delegation.delegatee));
@@ -96,7 +96,7 @@ fn show_delegations(rt: &impl Print, opened: &OpenTable) {
 }
 
 // The whole table.
-fn show(rt: &impl Print, opened: &OpenTable) {
+pub fn show(rt: &impl Print, opened: &OpenTable) {
     say_answer(rt, DONE);
     show_spaces(rt, opened.good.names.keys);
     show_bindings(rt, opened);

@@ -1,5 +1,5 @@
 // What keeps a command from being carried out, in words.
-use crate::answers::say_answer;
+use crate::answers::{NO_INPUT, NO_OUTPUT, WRONG_USE, say_answer};
 use crate::files::say_word;
 use crate::printing::say;
 use std::rt::Env;
@@ -18,9 +18,9 @@ impl Trouble {
     // The number that the program answers: of words that say nothing, of a file that cannot be read, of one that cannot be written.
     fn number(self) -> u32 {
         match self {
-            Trouble::NoCommand | Trouble::NoRequest => 64,
-            Trouble::Unread(_) => 66,
-            Trouble::Unwritten(_) | Trouble::PartlyWritten(_) => 73,
+            Trouble::NoCommand | Trouble::NoRequest => WRONG_USE,
+            Trouble::Unread(_) => NO_INPUT,
+            Trouble::Unwritten(_) | Trouble::PartlyWritten(_) => NO_OUTPUT,
         }
     }
 }
