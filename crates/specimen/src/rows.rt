@@ -13,7 +13,7 @@ pub const DERIVATION_OF_20: &[u8] = b"\x01\x00\x01\x00";
 const BY_KEY_40: &[u8] = b"\x00\x28\x00\x07\x02";
 
 // Writes the line of a row: its words, and what is answered.
-fn write_row(rt: &impl Print, name: &str, asked: &str, answer: Answer) {
+pub fn write_row(rt: &impl Print, name: &str, asked: &str, answer: Answer) {
     let told = Told(answer);
     let _ = println!(rt; "{name} {asked}: {told}");
 }
