@@ -3,7 +3,6 @@
 #![tactic(auto)]
 
 use crate::troubles::{Trouble, say_trouble};
-use crate::words::is_word;
 use std::rt::{Env, Files};
 
 mod answers;
@@ -29,22 +28,16 @@ mod writing;
 
 // Carries out the command that the first word says.
 fn run(rt: &(impl Env + Files + Print)) -> Result<(), Trouble> {
-    if is_word(rt, 1, b"decide") {
-        return deciding::run(rt);
+    let mut word = [0u8; 16];
+    let length = rt.arg(1, &mut word).map_err(|_| Trouble::NoCommand)?;
+    match &word[..length] {
+        b"decide" => deciding::run(rt),
+        b"check" => checking::run(rt),
+        b"translate" => translating::run(rt),
+        b"decide-by-keys" => key_deciding::run(rt),
+        b"show" => showing::run(rt),
+        _ => Err(Trouble::NoCommand),
     }
-    if is_word(rt, 1, b"check") {
-        return checking::run(rt);
-    }
-    if is_word(rt, 1, b"translate") {
-        return translating::run(rt);
-    }
-    if is_word(rt, 1, b"decide-by-keys") {
-        return key_deciding::run(rt);
-    }
-    if is_word(rt, 1, b"show") {
-        return showing::run(rt);
-    }
-    Err(Trouble::NoCommand)
 }
 
 fn main(rt: HostRuntime) {
