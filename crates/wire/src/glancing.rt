@@ -4,6 +4,7 @@ ghost use Rattle.std.specs.Prelude.{◌≡◌, ◌+◌, ◌-◌, ◌*◌, ◌^�
 ghost use Rattle.wire.specs.Glancing.{Glances};
 
 // The number at the place `at`, with the place after it, which is to be at least `low`, which is 0 or 1, and to have at most `more` bytes before its last, and behind so many a last one of at most `last`.
+#[inline(always)]
 pub fn glance_at(s: &[u8], at: usize, low: u32, more: usize, last: u32) -> Option<(u32, usize)>
     requires { (low ≤ 1) × (more ≤ 4) × (last < 128) × ((last + 1) * 128 ^ more ≤ 2 ^ 32) }
     ensures { IfSome result (λ seen. Glances low ((last + 1) * 128 ^ more - 1) s.now at seen.0 seen.1) }
