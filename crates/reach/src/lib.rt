@@ -14,6 +14,7 @@ use crate::edges::{depth_of, from_of, number_of, to_of};
 pub mod edges;
 
 // The code after one step by an edge of that depth.
+#[tactic(auto, using(crate::proofs::StepLaws::step_on))]
 fn step_code(code: u8, depth: u8) -> u8
     ensures { result ≡ step_code code depth }
 {
