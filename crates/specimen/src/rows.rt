@@ -13,9 +13,10 @@ pub const DERIVATION_OF_20: &[u8] = b"\x01\x00\x01\x00";
 const BY_KEY_40: &[u8] = b"\x00\x28\x00\x07\x02";
 
 // Writes the line of a row: its words, and what is answered.
-pub fn write_row(rt: &impl Print, name: &str, asked: &str, answer: Answer) {
+pub fn write_row(rt: &impl Print, words: &[u8], answer: Answer) {
     let told = Told(answer);
-    let _ = println!(rt; "{name} {asked}: {told}");
+    let _ = rt.write_all(words);
+    let _ = println!(rt; ": {told}");
 }
 
 // Answers P1: the sheet after a decision over T, which has six bindings.
@@ -35,11 +36,13 @@ fn decision_row(rt: &impl Print, name: &str, asked: &str, table: &[u8], request:
     let mut sheet = [7; 256];
     let mut derivation = [0; 512];
     let answer = rustamgheb_decide(table, request, &mut sheet, &mut derivation);
-    write_row(rt, name, asked, answer);
+    let _ = print!(rt; "{name} ");
+    write_row(rt, asked.as_bytes(), answer);
     if answer.number == DONE {
         let written = &derivation[..answer.length as usize];
         let checked = rustamgheb_check(table, request, written);
-        write_row(rt, name, "what the decision wrote", checked);
+        let _ = print!(rt; "{name} ");
+        write_row(rt, b"what the decision wrote", checked);
     }
 }
 
