@@ -46,6 +46,13 @@ impl fmt::Display for Bytes<'_> {
     }
 }
 
+// Writes the line of a row: its words, and what is answered.
+pub fn write_row(rt: &impl Print, words: &[u8], answer: Answer) {
+    let told = Told(answer);
+    let _ = rt.write_all(words);
+    let _ = println!(rt; ": {told}");
+}
+
 // Writes a refusal: its number, with the offset of a table's fault.
 fn write_refusal<W: fmt::Write>(f: &mut fmt::Formatter<W>, answer: Answer) -> fmt::Result {
     if answer.number < WRONG_REQUEST {

@@ -1,6 +1,6 @@
 // P1 to P8: the sheet, the decisions over T, and the derivations that are checked.
-use crate::lines::{Bytes, Told};
-use kernel::answers::{Answer, DONE};
+use crate::lines::{Bytes, Told, write_row};
+use kernel::answers::DONE;
 use kernel::{rustamgheb_check, rustamgheb_decide};
 
 // Key 20 asks for right 2.
@@ -11,13 +11,6 @@ pub const DERIVATION_OF_20: &[u8] = b"\x01\x00\x01\x00";
 
 // Key 40 asks for right 2.
 const BY_KEY_40: &[u8] = b"\x00\x28\x00\x07\x02";
-
-// Writes the line of a row: its words, and what is answered.
-pub fn write_row(rt: &impl Print, words: &[u8], answer: Answer) {
-    let told = Told(answer);
-    let _ = rt.write_all(words);
-    let _ = println!(rt; ": {told}");
-}
 
 // Answers P1: the sheet after a decision over T, which has six bindings.
 fn sheet_row(rt: &impl Print, table: &[u8]) {
